@@ -1,0 +1,78 @@
+-- The route bytes: what is left to look through after each need, and that the 255s past a way's end change nothing. Assumes nothing.
+use Prim.Native.Nat.{ℕ, suc, _+_, _-_, _<_, _≤_}
+use mathlib.Core.Path.{_≡_, refl, sym, ap, _∙_}
+use mathlib.Core.Bool.{true, false, cond, true≢false}
+use mathlib.Core.List.{List, [], _∷_, _++_}
+use mathlib.Core.Option.{Option, none, some}
+use native.Mathlib.Numerals.{add-one}
+use native.Mathlib.Omega.{arith}
+use borrow.Author.Tests.{eq-eqb, ne-eqb}
+use lib.Dec.{eqb}
+use lib.ListN.{length, getD, take, drop, replicate, drop-of-length-le, length-take}
+use lib.Seq.{drop-cons, getD-take}
+use Rattle.route.specs.declared.Need.{Need}
+use Rattle.route.specs.declared.Routed.{Routed}
+use Rattle.route.specs.declared.LabRoute.{LabRoute}
+use Rattle.route.specs.Table.{Table, needAt, noNeed}
+use Rattle.route.specs.Route.{entriesFor, eightBytes, firstWay, routedOf, labRouteOf}
+use Rattle.route.proofs.Ways.{first-way-some, no-needs}
+
+-- the entries of the role's needs from need i on
+abbrev pub onFrom : ℕ → List Need → List ℕ → ℕ → List ℕ
+onFrom r ns w i = entriesFor r (drop i ns) (drop i w)
+
+-- j needs of the role are to be passed, from need i on
+module _ (r count : ℕ) (list : List Need) (w : List ℕ) (i j : ℕ) where
+  pub none-on : length (take count list) ≤ i → 255 ≡ getD (onFrom r (take count list) w i) j 255
+  none-on h = rw (drop-of-length-le (take count list) h) refl
+
+  -- need i is looked at: it is the one, it is one to pass, or it has another role
+  module _ (known : (i < count) × (i < length list) × (i < length w)) where
+    on-step : onFrom r (take count list) w i ≡ cond (eqb (needAt list i .role) r) (getD w i 0 ∷ onFrom r (take count list) w (i + 1)) (onFrom r (take count list) w (i + 1))
+    on-step =
+        let h : i < length (take count list) = omega (arith, length-take count list) in
+        rw (add-one, drop-cons (take count list) i noNeed h, drop-cons w i 0 (known .2), getD-take count list i noNeed (known .0)) refl
+
+    pub this-one : needAt list i .role ≡ r → j ≡ 0 → getD w i 0 ≡ getD (onFrom r (take count list) w i) j 255
+    this-one q z = rw (on-step, eq-eqb _ _ q, z) refl
+
+    pub one-passed : needAt list i .role ≡ r → (j ≡ 0 → ⊥)
+        → getD (onFrom r (take count list) w i) j 255 ≡ getD (onFrom r (take count list) w (i + 1)) (j - 1) 255
+    one-passed q z =
+        let back : j ≡ suc (j - 1) = omega arith in
+        rw (on-step, eq-eqb _ _ q) (ap (λ (k : ℕ). getD (getD w i 0 ∷ onFrom r (take count list) w (i + 1)) k 255) back)
+
+    pub other-role : (needAt list i .role ≡ r → ⊥) → getD (onFrom r (take count list) w i) j 255 ≡ getD (onFrom r (take count list) w (i + 1)) j 255
+    other-role q = rw (on-step, ne-eqb _ _ q) refl
+
+-- ---- the whole way
+entries-pad : (r : ℕ) (ns : List Need) (w pad : List ℕ) → length w ≡ length ns → entriesFor r ns (w ++ pad) ≡ entriesFor r ns w
+entries-pad r [] w pad h = refl
+entries-pad r (n ∷ ns) [] pad h = absurd (omega arith)
+entries-pad r (n ∷ ns) (e ∷ w) pad h = rw (entries-pad r ns w pad (omega arith)) refl
+
+bytes-pad : (ns : List Need) (w pad : List ℕ) → length w ≡ length ns → eightBytes ns (w ++ pad) ≡ eightBytes ns w
+unfolding eightBytes
+bytes-pad ns w pad h =
+    rw (entries-pad 0 ns w pad h, entries-pad 1 ns w pad h, entries-pad 2 ns w pad h, entries-pad 3 ns w pad h, entries-pad 4 ns w pad h) refl
+
+-- the answers of `lab_route`: no needs, no way, a way
+pub lab-no-needs : (t : Table) → _≡_ {A = LabRoute} (record { found = true; bytes = replicate 8 255 }) (labRouteOf [] (firstWay t []))
+unfolding labRouteOf eightBytes
+lab-no-needs t = rw (no-needs t) refl
+
+pub lab-no-way : (ns : List Need) (o : Option (List ℕ)) (way : Routed) → way ≡ routedOf o → way .found ≡ false
+    → _≡_ {A = LabRoute} (record { found = false; bytes = replicate 8 255 }) (labRouteOf ns o)
+unfolding labRouteOf routedOf
+lab-no-way ns none way q f = refl
+lab-no-way ns (some w) way q f = absurd (true≢false (sym (ap (λ (x : Routed). x .found) q) ∙ f))
+
+lab-found : (ns : List Need) (o : Option (List ℕ)) (way : Routed) → ((w : List ℕ) → o ≡ some w → length w ≡ length ns) → way ≡ routedOf o
+    → way .found ≡ true → _≡_ {A = LabRoute} (record { found = true; bytes = eightBytes ns (way .entries) }) (labRouteOf ns o)
+unfolding labRouteOf routedOf
+lab-found ns none way h q f = absurd (true≢false (sym f ∙ ap (λ (x : Routed). x .found) q))
+lab-found ns (some w) way h q f = rw (q, bytes-pad ns w _ (h w refl)) refl
+
+pub lab-way : (t : Table) (ns : List Need) (way : Routed) → way ≡ routedOf (firstWay t ns) → way .found ≡ true
+    → _≡_ {A = LabRoute} (record { found = true; bytes = eightBytes ns (way .entries) }) (labRouteOf ns (firstWay t ns))
+lab-way t ns way q f = lab-found ns (firstWay t ns) way (λ w p. first-way-some t ns w p .0 .as-long) q f

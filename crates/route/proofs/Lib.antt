@@ -1,0 +1,7 @@
+pub mod Search
+pub mod Ways
+pub mod NeedLists
+mod Rows
+mod Steps
+mod Whole
+mod Bytes

@@ -1,0 +1,159 @@
+-- The first way is a way that is earlier than every other, and there is none exactly where no list is a way. The lists that the search may give from some
+-- taken entries on are the ways that have none of them. Assumes nothing.
+use Prim.Native.Nat.{ℕ, zero, suc, _<_}
+use mathlib.Core.Path.{_≡_, refl, sym, ap, _∙_}
+use mathlib.Core.Logic.{_⊎_, _↔_}
+use mathlib.Core.Bool.{Bool, true, false, not, _&&_, true≢false}
+use mathlib.Core.List.{List, [], _∷_, Sublistᴰ, Sublistᴰ·slnil, Sublistᴰ·cons, Sublistᴰ·cons-cons}
+use mathlib.Core.Option.{none, some}
+use native.Mathlib.Nat.{not-suc-le-zero, le-of-suc-le-suc}
+use native.Mathlib.Omega.{arith}
+use lib.ListN.{length, getD, set, replicate, getD-replicate}
+use lib.Seq.{getD-set-same, getD-set-other}
+use Rattle.route.specs.declared.Need.{Need}
+use Rattle.route.specs.Table.{Table, serves, needAt}
+use Rattle.route.specs.Way.{Way, Earlier}
+use Rattle.route.specs.Search.{searchFrom}
+use Rattle.route.specs.Route.{mayHave, takenBy, firstWay}
+use Rattle.route.proofs.Search.{First, Given, first-none, first-some, first-found, first-same, search-first}
+
+-- ---- one entry
+free-of : (b x : Bool) → b && not x ≡ true → (b ≡ true) × (x ≡ false)
+free-of true true q = absurd (true≢false (sym q))
+free-of true false q = (refl, refl)
+free-of false x q = absurd (true≢false (sym q))
+
+-- what the table does not hold serves no role
+served-low : (t : Table) (e r : ℕ) → serves t e r ≡ true → e < length t
+served-low [] e r q = absurd (true≢false (sym q))
+served-low (x ∷ t) zero r q = omega arith
+served-low (x ∷ t) (suc e) r q = let h = served-low t e r q in omega arith
+
+abbrev Free : List Bool → ℕ → Type 0
+Free taken e = getD taken e true ≡ false
+
+-- what is past the end counts as taken
+free-low : (taken : List Bool) (e : ℕ) → Free taken e → e < length taken
+free-low [] e q = absurd (true≢false q)
+free-low (x ∷ taken) zero q = omega arith
+free-low (x ∷ taken) (suc e) q = let h = free-low taken e q in omega arith
+
+-- an entry that is free once e is taken is another, and was free before
+free-before : (taken : List Bool) (e x : ℕ) → Free taken e → Free (set taken e true) x → (x ≡ e → ⊥) × Free taken x
+free-before taken e x p q = (differs, sym (getD-set-other taken e x true true differs) ∙ q)
+  where
+    differs : x ≡ e → ⊥
+    differs s = true≢false (sym (getD-set-same taken e true true (free-low taken e p)) ∙ (rw s at q))
+
+-- ---- to be given entry by entry is to be a way whose entries are free
+abbrev GivenFrom : Table → List Bool → List Need → List ℕ → Type 0
+GivenFrom t = Given (mayHave t) takenBy (length t)
+
+abbrev AllFree : List Bool → List ℕ → Type 0
+AllFree taken w = (i : ℕ) → i < length w → Free taken (getD w i 0)
+
+given-way : (t : Table) (ns : List Need) (taken : List Bool) (w : List ℕ) → GivenFrom t taken ns w → Way t ns w × AllFree taken w
+given-way t [] taken [] b =
+    (record { as-long = refl; serving = λ i h. absurd (not-suc-le-zero h); its-own = λ i j l h. absurd (not-suc-le-zero h) }, λ i h. absurd (not-suc-le-zero h))
+given-way t [] taken (e ∷ w) b = absurd b
+given-way t (n ∷ ns) taken [] b = absurd b
+given-way t (n ∷ ns) taken (e ∷ w) b = longer (given-way t ns (set taken e true) w (b .2))
+  where
+    here : (serves t e (n .role) ≡ true) × Free taken e
+    here = free-of (serves t e (n .role)) (getD taken e true) (b .1)
+
+    longer : Way t ns w × AllFree (set taken e true) w → Way t (n ∷ ns) (e ∷ w) × AllFree taken (e ∷ w)
+    longer p = (record { as-long = ap suc (p .0 .as-long); serving = serve; its-own = apart }, free)
+      where
+        later : (i : ℕ) → i < length w → (getD w i 0 ≡ e → ⊥) × Free taken (getD w i 0)
+        later i h = free-before taken e (getD w i 0) (here .1) (p .1 i h)
+
+        serve : (i : ℕ) → i < length (n ∷ ns) → serves t (getD (e ∷ w) i 0) (needAt (n ∷ ns) i .role) ≡ true
+        serve zero h = here .0
+        serve (suc i) h = p .0 .serving i (le-of-suc-le-suc h)
+
+        apart : (i j : ℕ) → i < j → j < length (n ∷ ns) → getD (e ∷ w) i 0 ≡ getD (e ∷ w) j 0 → ⊥
+        apart i zero l h q = not-suc-le-zero l
+        apart zero (suc j) l h q = later j (let k = p .0 .as-long in omega arith) .0 (sym q)
+        apart (suc i) (suc j) l h q = p .0 .its-own i j (le-of-suc-le-suc l) (le-of-suc-le-suc h) q
+
+        free : AllFree taken (e ∷ w)
+        free zero h = here .1
+        free (suc i) h = later i (le-of-suc-le-suc h) .1
+
+way-given : (t : Table) (ns : List Need) (taken : List Bool) (w : List ℕ) → Way t ns w → AllFree taken w → GivenFrom t taken ns w
+way-given t [] taken [] p f = tt
+way-given t [] taken (e ∷ w) p f = let q = p .as-long in omega arith
+way-given t (n ∷ ns) taken [] p f = let q = p .as-long in omega arith
+way-given t (n ∷ ns) taken (e ∷ w) p f = (
+  served-low t e (n .role) here,
+  rw (here, f 0 (omega arith)) refl,
+  way-given t ns (set taken e true) w tail rest,
+)
+  where
+    here : serves t e (n .role) ≡ true
+    here = p .serving 0 (omega arith)
+
+    tail : Way t ns w
+    tail = record {
+      as-long = let q = p .as-long in omega arith;
+      serving = λ i h. p .serving (suc i) (omega arith);
+      its-own = λ i j l h. p .its-own (suc i) (suc j) (omega arith) (omega arith);
+    }
+
+    rest : AllFree (set taken e true) w
+    rest i h =
+        getD-set-other taken e (getD w i 0) true true (λ q. p .its-own 0 (suc i) (omega arith) (let k = p .as-long in omega arith) (sym q))
+        ∙ f (suc i) (omega arith)
+
+abbrev none-taken : Table → List Bool
+none-taken t = replicate (length t) false
+
+module _ (t : Table) where
+  from-start : (ns : List Need) (w : List ℕ) → Way t ns w → GivenFrom t (none-taken t) ns w
+  from-start ns w p =
+      way-given t ns (none-taken t) w p (λ i h. getD-replicate (length t) (getD w i 0) false true
+      (served-low t (getD w i 0) (needAt ns i .role) (p .serving i (let k = p .as-long in omega arith))))
+
+  -- ---- the laws
+  first-way : (ns : List Need) → First (Way t ns) (firstWay t ns)
+  unfolding firstWay
+  first-way ns =
+      first-same (GivenFrom t (none-taken t) ns) (Way t ns) (λ w b. given-way t ns (none-taken t) w b .0) (from-start ns) (firstWay t ns)
+      (search-first (mayHave t) takenBy (length t) (none-taken t) ns)
+
+  pub first-way-none : (ns : List Need) → (firstWay t ns ≡ none) ↔ ((w : List ℕ) → Way t ns w → ⊥)
+  first-way-none ns = first-none (Way t ns) (firstWay t ns) (first-way ns)
+
+  pub first-way-some : (ns : List Need) (w : List ℕ) → firstWay t ns ≡ some w → Way t ns w × ((v : List ℕ) → Way t ns v → (v ≡ w) ⊎ Earlier w v)
+  first-way-some ns w q = first-some (Way t ns) (firstWay t ns) w (first-way ns) q
+
+  pub first-way-found : (ns : List Need) (w : List ℕ) → Way t ns w → (v : List ℕ) × (firstWay t ns ≡ some v)
+  first-way-found ns w p = first-found (Way t ns) (firstWay t ns) (first-way ns) w p
+
+  pub no-needs : firstWay t [] ≡ some []
+  unfolding firstWay searchFrom
+  no-needs = refl
+
+  -- fewer needs: the entries of those that stay
+  given-part : {ms ns : List Need} → Sublistᴰ ms ns → (taken fewer : List Bool) → ((x : ℕ) → Free taken x → Free fewer x) → (w : List ℕ)
+      → GivenFrom t taken ns w → (v : List ℕ) × GivenFrom t fewer ms v
+  given-part Sublistᴰ·slnil taken fewer h w b = ([], tt)
+  given-part (Sublistᴰ·cons s) taken fewer h [] b = absurd b
+  given-part (Sublistᴰ·cons {a} s) taken fewer h (e ∷ w) b =
+      given-part s (set taken e true) fewer (λ x q. h x (free-before taken e x (free-of (serves t e (a .role)) (getD taken e true) (b .1) .1) q .1)) w (b .2)
+  given-part (Sublistᴰ·cons-cons q s) taken fewer h [] b = absurd b
+  given-part (Sublistᴰ·cons-cons {b = n} q s) taken fewer h (e ∷ w) b =
+      let rest = given-part s (set taken e true) (set fewer e true) still w (b .2) in
+      (e ∷ rest .0, (b .0, rw (q, here .0, h e (here .1)) refl, rest .1))
+    where
+      here : (serves t e (n .role) ≡ true) × Free taken e
+      here = free-of (serves t e (n .role)) (getD taken e true) (b .1)
+
+      still : (x : ℕ) → Free (set taken e true) x → Free (set fewer e true) x
+      still x f = let g = free-before taken e x (here .1) f in getD-set-other fewer e x true true (g .0) ∙ h x (g .1)
+
+  pub way-part : {ms ns : List Need} → Sublistᴰ ms ns → (w : List ℕ) → Way t ns w → (v : List ℕ) × Way t ms v
+  way-part {ms} {ns} s w p =
+      let g = given-part s (none-taken t) (none-taken t) (λ x f. f) w (from-start ns w p) in
+      (g .0, given-way t ms (none-taken t) (g .0) (g .1) .0)

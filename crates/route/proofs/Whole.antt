@@ -1,0 +1,56 @@
+-- The answer that `place` gives from the first need on is the one that `first_way` promises. Assumes nothing.
+use Prim.Native.Nat.{ℕ, zero, suc, _-_, _<_, _≤_}
+use mathlib.Core.Path.{_≡_, refl, sym, ap, _∙_}
+use mathlib.Core.Bool.{false}
+use mathlib.Core.List.{List, [], _∷_, _++_}
+use mathlib.Core.Option.{Option, none, some}
+use native.Mathlib.Nat.{zero-add, sub-zero, zero-sub, suc-sub-suc}
+use native.Mathlib.Omega.{arith}
+use lib.ListN.{length, set, take, drop, replicate, length-take, length-replicate}
+use lib.Seq.{slice, sets, sets-eq, set-comm, take-all}
+use Rattle.route.specs.declared.Need.{Need}
+use Rattle.route.specs.Table.{Table}
+use Rattle.route.specs.Search.{searchFrom}
+use Rattle.route.specs.Route.{mayHave, takenBy, firstWay, routedOf}
+use Rattle.route.specs.Partial.{put, routedFrom}
+use Rattle.route.proofs.Ways.{first-way-some}
+
+sets-set : (l : List ℕ) (i j a : ℕ) (w : List ℕ) → i < j → sets (set l i a) j w ≡ set (sets l j w) i a
+sets-set l i j a [] h = refl
+sets-set l i j a (b ∷ w) h =
+    ap (λ (m : List ℕ). sets m (suc j) w) (set-comm l i j a b (λ q. omega arith)) ∙ sets-set (set l j b) i (suc j) a w (omega arith)
+
+put-sets : (l : List ℕ) (i : ℕ) (w : List ℕ) → put l i w ≡ sets l i w
+unfolding put
+put-sets l i [] = refl
+put-sets l i (a ∷ w) = ap (λ (m : List ℕ). set m i a) (put-sets l (suc i) w) ∙ sym (sets-set l i (suc i) a w (omega arith))
+
+drop-replicate : (k n a : ℕ) → drop k (replicate n a) ≡ replicate (n - k) a
+drop-replicate zero n a = rw sub-zero refl
+drop-replicate (suc k) zero a = rw zero-sub refl
+drop-replicate (suc k) (suc n) a = rw suc-sub-suc (drop-replicate k n a)
+
+put-front : (w : List ℕ) (n a : ℕ) → length w ≤ n → put (replicate n a) 0 w ≡ w ++ replicate (n - length w) a
+put-front w n a h =
+    put-sets (replicate n a) 0 w ∙ sets-eq w (replicate n a) 0 (rw (zero-add, length-replicate) h)
+    ∙ rw (zero-add, drop-replicate) refl
+
+from-first : (o : Option (List ℕ)) → ((w : List ℕ) → o ≡ some w → length w ≤ 8) → routedFrom 0 o ≡ routedOf o
+unfolding routedFrom routedOf
+from-first none h = refl
+from-first (some w) h = rw (put-front w 8 255 (h w refl)) refl
+
+module _ (t : Table) (needs : List Need) (n count : ℕ) (rows : length t ≡ 6) (eight : length needs ≡ 8) where
+  pub whole : take n needs ≡ take count needs
+      → routedFrom 0 (searchFrom (mayHave t) takenBy 6 (replicate 6 false) (slice 0 n needs)) ≡ routedOf (firstWay t (take count needs))
+  unfolding firstWay
+  whole same =
+      ap (λ (size : ℕ). routedFrom 0 (searchFrom (mayHave t) takenBy size (replicate size false) (take n needs))) (sym rows)
+      ∙ ap (λ (ns : List Need). routedFrom 0 (firstWay t ns)) same
+      ∙ from-first (firstWay t (take count needs)) short
+    where
+      short : (w : List ℕ) → firstWay t (take count needs) ≡ some w → length w ≤ 8
+      short w q = omega (arith, first-way-some t (take count needs) w q .0 .as-long, length-take count needs)
+
+pub all-eight : (needs : List Need) (count : ℕ) → length needs ≡ 8 → 8 ≤ count → take 8 needs ≡ take count needs
+all-eight needs count l h = take-all 8 needs (omega arith) ∙ sym (take-all count needs (omega arith))

@@ -1,0 +1,209 @@
+use sheet::Signal;
+ghost use mathlib.Core.Path.{_≡_};
+ghost use mathlib.Core.Bool.{true, false};
+ghost use mathlib.Core.List.{[], _∷_};
+ghost use Prim.Native.Nat.{_+_, _≤_, _<_};
+ghost use lib.ListN.{length, take, set, replicate, getD};
+ghost use lib.Seq.{slice};
+ghost use Rattle.route.specs.Table.{houseBoard, needList, noNeeds, withNeed};
+ghost use Rattle.route.specs.Search.{searchFrom};
+ghost use Rattle.route.specs.Route.{mayHave, takenBy, firstWay, routedOf, byteFor, eightBytes, labRouteOf};
+ghost use Rattle.route.specs.Partial.{routedFrom};
+
+// What a register asks of its LAB: an entry of this role for this signal.
+pub struct Need {
+    pub role: u8,
+    pub signal: Signal,
+}
+
+// The needs of a LAB in order: the first `count` of the list.
+pub struct Needs {
+    pub count: usize,
+    pub list: [Need; 8],
+}
+
+// The entry of each need, and 255 past the needs; found says whether there is a way.
+pub struct Routed {
+    pub found: bool,
+    pub entries: [u8; 8],
+}
+
+// The eight route bytes of a LAB; found says whether there is a way.
+pub struct LabRoute {
+    pub found: bool,
+    pub bytes: [u8; 8],
+}
+
+// The board of document 01: for each entry, whether it serves clk, ena, aclr, sclr, sload.
+pub const HOUSE_BOARD: [[bool; 5]; 6] = [
+    [true, false, false, false, false],
+    [true, false, true, false, false],
+    [true, true, false, false, false],
+    [false, true, false, false, true],
+    [false, false, true, true, false],
+    [false, false, false, true, true],
+];
+
+// The board of document 01.
+pub fn house_board() -> [[bool; 5]; 6]
+    ensures { λ r. ⌜ r ≡ houseBoard ⌝ }
+{
+    HOUSE_BOARD
+}
+
+impl Needs {
+    pub fn none() -> Self
+        ensures { λ r. ⌜ r ≡ noNeeds ⌝ }
+    {
+        Needs {
+            count: 0,
+            list: [Need {
+                role: 0,
+                signal: Signal::UNCONNECTED,
+            }; 8],
+        }
+    }
+
+    // One need more, where there is room for it.
+    pub fn with(self, need: Need) -> Self
+        ensures { λ r. ⌜ r ≡ withNeed self need ⌝ }
+    {
+        let count = self.count;
+        if count < 8 {
+            let mut list = self.list;
+            list[count] = need;
+            return Needs {
+                count: count + 1,
+                list,
+            };
+        }
+        self
+    }
+}
+
+// Whether the need may have entry e: it serves the role and is not taken.
+fn may_have(table: [[bool; 5]; 6], taken: [bool; 6], need: Need, e: usize) -> bool
+    ensures { λ r. ⌜ r ≡ mayHave table taken need e ⌝ }
+{
+    if e < 6 {
+        if taken[e] {
+            return false;
+        }
+        let role = need.role as usize;
+        if role < 5 {
+            return table[e][role];
+        }
+    }
+    false
+}
+
+// The earliest way for the needs from `at` to n that gives no taken entry. The needs that remain are one fewer at each call.
+fn place(table: [[bool; 5]; 6], needs: [Need; 8], n: usize, at: usize, taken: [bool; 6]) -> Routed
+    requires { ⌜ (at ≤ n) × (n ≤ 8) ⌝ }
+    ensures { λ r. ⌜ r ≡ routedFrom at (searchFrom (mayHave table) takenBy 6 taken (slice at n needs)) ⌝ }
+{
+    if at == n {
+        return Routed {
+            found: true,
+            entries: [255u8; 8],
+        };
+    }
+    let need = needs[at];
+    let mut e: usize = 0;
+    while e < 6 {
+        if may_have(table, taken, need, e) {
+            let mut more = taken;
+            more[e] = true;
+            let r = place(table, needs, n, at + 1, more);
+            if r.found {
+                let mut entries = r.entries;
+                entries[at] = e as u8;
+                return Routed {
+                    found: true,
+                    entries,
+                };
+            }
+        }
+        e += 1;
+    }
+    Routed {
+        found: false,
+        entries: [255u8; 8],
+    }
+}
+
+// The earliest way for a LAB's needs.
+pub fn first_way(table: [[bool; 5]; 6], needs: Needs) -> Routed
+    ensures { λ r. ⌜ r ≡ routedOf (firstWay table (needList needs)) ⌝ }
+{
+    let taken = [false; 6];
+    let list = needs.list;
+    let count = needs.count;
+    if 8 < count {
+        return place(table, list, 8, 0, taken);
+    }
+    place(table, list, count, 0, taken)
+}
+
+// The byte of need j of the role: the entry that it has, and 255 where there is no such need.
+fn byte_for(needs: Needs, entries: [u8; 8], role: u8, j: usize) -> u8
+    ensures { λ r. ⌜ r ≡ byteFor (needList needs) entries role j ⌝ }
+{
+    let list = needs.list;
+    let count = needs.count;
+    let mut left = j;
+    let mut i: usize = 0;
+    while i < 8 {
+        if count <= i {
+            return 255;
+        }
+        let need = list[i];
+        if need.role == role {
+            if left == 0 {
+                return entries[i];
+            }
+            left -= 1;
+        }
+        i += 1;
+    }
+    255
+}
+
+// The route bytes: two clk, two ena, two aclr, sclr, sload.
+fn eight_bytes(needs: Needs, entries: [u8; 8]) -> [u8; 8]
+    ensures { λ r. ⌜ r ≡ eightBytes (needList needs) entries ⌝ }
+{
+    [
+        byte_for(needs, entries, 0, 0),
+        byte_for(needs, entries, 0, 1),
+        byte_for(needs, entries, 1, 0),
+        byte_for(needs, entries, 1, 1),
+        byte_for(needs, entries, 2, 0),
+        byte_for(needs, entries, 2, 1),
+        byte_for(needs, entries, 3, 0),
+        byte_for(needs, entries, 4, 0),
+    ]
+}
+
+// Whether a LAB with these needs has a way, and its eight route bytes.
+pub fn lab_route(table: [[bool; 5]; 6], needs: Needs) -> LabRoute
+    ensures { λ r. ⌜ r ≡ labRouteOf (needList needs) (firstWay table (needList needs)) ⌝ }
+{
+    let count = needs.count;
+    if count == 0 {
+        return LabRoute {
+            found: true,
+            bytes: [255u8; 8],
+        };
+    }
+    let way = first_way(table, needs);
+    if way.found {
+        let entries = way.entries;
+        let bytes = eight_bytes(needs, entries);
+        return LabRoute { found: true, bytes };
+    }
+    LabRoute {
+        found: false,
+        bytes: [255u8; 8],
+    }
+}
