@@ -1,7 +1,7 @@
 -- A cell's record: "24 bytes a cell: kind, flag, eleven signals". Assumes nothing.
 use Prim.Native.Nat.{ℕ, _+_, _*_}
 use mathlib.Core.Bool.{Bool, true, false, cond, not, _&&_, _||_}
-use mathlib.Core.List.{List}
+use mathlib.Core.List.{List, [], _∷_}
 use lib.ListN.{length}
 use lib.Dec.{eqb, ltb}
 use Rattle.sheet.specs.Bytes.{byteAt, u16At}
@@ -105,3 +105,9 @@ abbrev pub isMalformed : Record → Bool
 isMalformed (Combinational c) = false
 isMalformed (Register c) = false
 isMalformed Malformed = true
+
+-- the codes at a cell's outputs
+unfoldable pub outputs : Record → List ℕ
+outputs (Combinational c) = c .combout .0 ∷ c .cout .0 ∷ []
+outputs (Register r) = r .regout .0 ∷ []
+outputs Malformed = []

@@ -1,0 +1,6 @@
+pub mod Steps
+pub mod Folded
+pub mod Needed
+pub mod Result
+pub mod Fewer
+pub mod Settled
