@@ -1,26 +1,27 @@
 #!/usr/bin/env bash
-# Passes all tests: the layout of every source file, the tests that stand outside Rattle, and rt's own gate over every
-# crate of crates.txt. The last line is rt's 'N passed, M failed'; the exit status is 0 only where M is 0.
+# Passes all tests: the layout of every source file, rt's own gate over every crate of crates.txt, then the tests that stand outside
+# Rattle (tests/*/run). The last line is rt's 'N passed, M failed'; the exit status is 0 only where everything passed.
 set -u
 cd "$(dirname "$0")" || exit 2
 
-if ! command -v rt > /dev/null; then
-  echo "test.sh: the Rattle toolchain's command rt is not on the PATH" >&2
-  exit 2
-fi
+for tool in rt rustc cc python3; do
+  command -v "$tool" > /dev/null || { echo "test.sh: $tool is not on the PATH" >&2; exit 2; }
+done
 
 rt fmt --check || { echo "test.sh: run 'rt fmt'"; exit 1; }
-
-for check in tests/*/run; do
-  [ -x "$check" ] || continue
-  "$check" || { echo "test.sh: $check failed"; exit 1; }
-done
 
 log=$(mktemp) || exit 2
 trap 'rm -f "$log"' EXIT
 rt ci 2>&1 | tee "$log"
-status=${PIPESTATUS[0]}
-case $(tail -n 1 "$log") in
-  *" passed, 0 failed") exit "$status" ;;
+[ "${PIPESTATUS[0]}" -eq 0 ] || exit 1
+verdict=$(tail -n 1 "$log")
+case $verdict in
+  *" passed, 0 failed") ;;
   *) exit 1 ;;
 esac
+
+rt staticlib c_api > "$log" 2>&1 || { tail -n 20 "$log"; echo "test.sh: the C library was not built"; exit 1; }
+for check in tests/*/run; do
+  "$check" || { echo "test.sh: $check failed"; exit 1; }
+done
+echo "$verdict"

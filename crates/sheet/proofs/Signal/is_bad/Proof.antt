@@ -9,4 +9,4 @@ is-bad-spec =
     (tie.spec
     (λ c κs. search needs)  -- net-requires
     (λ c κs. search needs)  -- is-net-requires
-    (λ c. cc))  -- returns
+    (λ c. rw (c .before .net .ensures, c .is-net .ensures)))  -- returns

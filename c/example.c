@@ -1,0 +1,56 @@
+/* Judges two files and prints the verdict, the culprit and the route of every occupied LAB.
+ *
+ *     cc -o example c/example.c target/staticlib/libc_api.a && ./example exercise.lxe answer.lxa */
+#include "nurimkkot.h"
+
+#include <stdio.h>
+
+/* One byte more than the largest legal sheets: a longer file is refused by its length all the same. */
+#define EXERCISE_ROOM 12298
+#define ANSWER_ROOM 2060
+
+/* Reads a file; one that is missing counts as empty. */
+static size_t read_file(const char *path, uint8_t *bytes, size_t room)
+{
+    FILE *file = fopen(path, "rb");
+    size_t length;
+    if (file == NULL)
+        return 0;
+    length = fread(bytes, 1, room, file);
+    fclose(file);
+    return length;
+}
+
+int main(int argc, char **argv)
+{
+    static uint8_t exercise[EXERCISE_ROOM], answer[ANSWER_ROOM], route[NURIMKKOT_ROUTE_SIZE];
+    static uint8_t occupied[1024];
+    uint64_t numbers[NURIMKKOT_NUMBERS];
+    size_t exercise_length, answer_length, i;
+
+    if (argc != 3) {
+        fprintf(stderr, "usage: example EXERCISE ANSWER\n");
+        return 2;
+    }
+    exercise_length = read_file(argv[1], exercise, sizeof exercise);
+    answer_length = read_file(argv[2], answer, sizeof answer);
+    nurimkkot_judge(exercise, exercise_length, answer, answer_length, route, sizeof route, numbers);
+
+    printf("number %llu\n", (unsigned long long)numbers[NURIMKKOT_NUMBER]);
+    printf("cell %llu\n", (unsigned long long)numbers[NURIMKKOT_CELL]);
+    printf("lab %llu\n", (unsigned long long)numbers[NURIMKKOT_LAB]);
+    printf("apprentice %llu\n", (unsigned long long)numbers[NURIMKKOT_APPRENTICE]);
+    printf("culprit %s %llu %llu\n", numbers[NURIMKKOT_SHEET] ? "answer" : "exercise",
+           (unsigned long long)numbers[NURIMKKOT_START], (unsigned long long)numbers[NURIMKKOT_LENGTH]);
+    if (numbers[NURIMKKOT_NUMBER] != 0)
+        return 0;
+
+    for (i = 11; i + 4 <= answer_length; i += 4)
+        occupied[32 * answer[i + 1] + answer[i]] = 1;
+    for (i = 0; i < 1024; i++) {
+        const uint8_t *b = route + 8 * i;
+        if (occupied[i])
+            printf("route %zu %d %d %d %d %d %d %d %d\n", i, b[0], b[1], b[2], b[3], b[4], b[5], b[6], b[7]);
+    }
+    return 0;
+}

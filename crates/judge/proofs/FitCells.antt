@@ -1,0 +1,77 @@
+-- A cell that keeps 30 to 44, of an exercise with at most 1,024 nets, is fit for a LAB: its signals are small, and an enable has a clock.
+-- Where every cell is such a cell, the cells of each LAB are fit. Assumes nothing.
+use Prim.Native.Nat.{ℕ, zero, suc, _+_, _≤_, _<_}
+use mathlib.Core.Path.{_≡_, refl, sym}
+use mathlib.Core.Bool.{Bool, true, false, cond, true≢false}
+use mathlib.Core.List.{List, [], _∷_, _++_, map}
+use native.Mathlib.Omega.{arith}
+use lib.Dec.{eqb}
+use borrow.Author.Tests.{eqb-true, leb-false, not-false}
+use Rattle.sheet.specs.Lists.{filterb, elemb, from}
+use Rattle.sheet.specs.Checks.{firstNumber}
+use Rattle.sheet.specs.Signal.{connected, isNet, isBad, isBadOutput}
+use Rattle.sheet.specs.Exercise.{netCount, cellCount, recordPart}
+use Rattle.sheet.specs.Record.{recordAt}
+use Rattle.sheet.specs.declared.RegisterCell.{RegisterCell}
+use Rattle.sheet.specs.declared.Record.{Record}
+use Rattle.sheet.specs.declared.Record.the-variants.{Combinational, Register, Malformed}
+use Rattle.sheet.proofs.Laws.{by-test}
+use Rattle.lab.specs.Ports.{clk, ena, inputs}
+use Rattle.lab.specs.Counts.{Fit, AllFit}
+use Rattle.netlist.specs.Cells.{cell, allInputs, clockWithoutOutput, clearWithoutClock, loadWithoutClock, loadWithoutData, enableWithoutClock, registerChecks, cellChecks}
+use Rattle.placing.specs.Places.{labAt}
+use Rattle.labs.specs.Members.{members}
+use Rattle.judge.specs.Judge.{labCells}
+use Rattle.netlist.proofs.Decoded.{inputs-good, outputs-good, good-net, good-output}
+
+-- ---- signals
+module _ (nets s : ℕ) (few : nets ≤ 1024) where
+  small-input : isBad nets s ≡ false → s < 2052
+  small-input h = by-test (isNet s) (λ n. omega (arith, good-net nets s h n)) (λ n. omega (arith, leb-false 4 s n))
+
+  small-output : isBadOutput nets s ≡ false → s < 2052
+  small-output h =
+      by-test (eqb s 0) (λ q. omega (arith, eqb-true s 0 q)) (λ q. omega (arith, good-output nets s h (rw q) .2))
+
+elem-more : (s : ℕ) (xs ys : List ℕ) → elemb s xs ≡ true → elemb s (xs ++ ys) ≡ true
+elem-more s [] ys m = absurd (true≢false (sym m))
+elem-more s (x ∷ xs) ys m = by-test (eqb s x) (λ e. rw e) (λ e. rw e (elem-more s xs ys (rw e at m)))
+
+-- the inputs without cin are inputs
+input-of-all : (s : ℕ) (c : Record) → elemb s (inputs c) ≡ true → elemb s (allInputs c) ≡ true
+unfolding inputs allInputs
+input-of-all s (Combinational c) m = elem-more s (inputs (Combinational c)) (c .cin .0 ∷ []) m
+input-of-all s (Register r) m = m
+input-of-all s Malformed m = m
+
+-- ---- 34
+passed : (b : Bool) (n later : ℕ) → cond b (suc n) later ≡ 0 → (b ≡ false) × (later ≡ 0)
+passed true n later h = absurd (omega arith)
+passed false n later h = (refl, h)
+
+enable-clocked : (r : RegisterCell) → firstNumber (registerChecks r) ≡ 0 → connected (ena r) ≡ true → connected (clk r) ≡ true
+enable-clocked r h on =
+    let after30 = passed (clockWithoutOutput r) 29 _ h .1 in
+    let after31 = passed (clearWithoutClock r) 30 _ after30 .1 in
+    let after32 = passed (loadWithoutClock r) 31 _ after31 .1 in
+    let after33 = passed (loadWithoutData r) 32 _ after32 .1 in
+    not-false (connected (clk r)) (rw on at (passed (enableWithoutClock r) 33 _ after33 .0))
+
+-- ---- cells
+pub cell-fit : (e : List ℕ) (i : ℕ) → netCount e ≤ 1024 → firstNumber (cellChecks e i) ≡ 0 → Fit (cell e i)
+unfolding cell recordAt cellChecks
+cell-fit e i few h = record {
+  small-inputs = λ s m. small-input (netCount e) s few (inputs-good (netCount e) (recordPart e i) s (input-of-all s (cell e i) m));
+  small-outputs = λ s m. small-output (netCount e) s few (outputs-good (netCount e) (recordPart e i) s m);
+  clocked = λ r q. enable-clocked r (rw q at h);
+}
+
+fit-from : (e : List ℕ) (p : ℕ → Bool) (i k : ℕ) → ((j : ℕ) → j < i + k → Fit (cell e j)) → AllFit (map (cell e) (filterb p (from i k)))
+fit-from e p i zero h = tt
+fit-from e p i (suc k) h =
+    let rest = fit-from e p (suc i) k (λ j l. h j (omega arith)) in
+    by-test (p i) (λ t. rw t (h i (omega arith), rest)) (λ t. rw t rest)
+
+pub lab-fit : (e a : List ℕ) → netCount e ≤ 1024 → ((i : ℕ) → i < cellCount e → firstNumber (cellChecks e i) ≡ 0) → (l : ℕ) → AllFit (labCells e a l)
+unfolding labCells members
+lab-fit e a few h l = fit-from e (λ i. eqb (labAt a i) l) 0 (cellCount e) (λ j m. cell-fit e j few (h j (omega arith)))

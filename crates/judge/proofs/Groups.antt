@@ -1,0 +1,99 @@
+-- What each group of checks finds, as the stages of the code find it: the groups one after the other, and within a group its runs.
+-- Assumes nothing.
+use Prim.Native.Nat.{ℕ}
+use native.Mathlib.Omega.{arith}
+use mathlib.Core.Path.{_≡_, _∙_}
+use mathlib.Core.Bool.{cond, not}
+use mathlib.Core.List.{List, _∷_, _++_}
+use lib.Dec.{eqb, ltb}
+use borrow.Author.Tests.{ne-eqb}
+use Rattle.sheet.specs.Lists.{firstFrom}
+use Rattle.sheet.specs.Exercise.{cellCount, exerciseChecks, exerciseNumber}
+use Rattle.sheet.specs.Answer.{answerChecks, answerNumber, placeCount, wrongAnswerLength}
+use Rattle.sheet.proofs.Laws.{by-test}
+use Rattle.netlist.specs.Cells.{cellNumbers, malformed, doubleDriver, cellChecks, cellNumber}
+use Rattle.placing.specs.Places.{outOfRangeAt, placeTaken}
+use Rattle.judge.specs.declared.Finding.{Finding}
+use Rattle.judge.specs.Judge.{Check, NONE, finding, check, ofSheet, perCell, carryNotNext, roomChecks, exerciseGroup, answerGroup, cellGroup, placeGroup, checksTo51, firstBroken}
+use Rattle.judge.specs.Stages.{numbered, atCell}
+use borrow.Author.Needs.{needs}
+use Rattle.judge.proofs.Broken.{Every, first-append, sheet-finds, run-finds, cells-find}
+use Rattle.judge.proofs.Numbers.{To51, known-numbered, every-append, run-known, exercise-known, answer-known, cells-known, cell-numbered}
+
+-- one finding, and the next one where it is nothing
+abbrev pub then : Finding → Finding → Finding
+then f g = cond (eqb (f .number) 0) g f
+
+-- of two lists in turn, where all numbers of the first are known
+in-turn : (xs ys : List Check) → Every To51 xs → firstBroken (xs ++ ys) ≡ then (firstBroken xs) (firstBroken ys)
+in-turn xs ys h = first-append xs ys (known-numbered 51 xs h)
+
+run-15 : (e : List ℕ) → Every To51 (perCell 15 (malformed e) (cellNumbers e))
+run-15 e = run-known 15 (search needs) (malformed e) (cellNumbers e)
+
+run-50 : (e a : List ℕ) → Every To51 (perCell 50 (placeTaken e a) (cellNumbers e))
+run-50 e a = run-known 50 (search needs) (placeTaken e a) (cellNumbers e)
+
+group-known : (e : List ℕ) → Every To51 (exerciseGroup e)
+unfolding exerciseGroup
+group-known e =
+    every-append To51 (ofSheet (exerciseChecks e)) (perCell 15 (malformed e) (cellNumbers e) ++ perCell 16 (doubleDriver e) (cellNumbers e)) (exercise-known e)
+    (every-append To51 (perCell 15 (malformed e) (cellNumbers e)) (perCell 16 (doubleDriver e) (cellNumbers e)) (run-15 e) (run-known 16 (search needs) (doubleDriver e) (cellNumbers e)))
+
+-- a run that stopped before the end has found something
+pub run-then : (n : ℕ) (i k : ℕ) (g : Finding) → (n ≡ 0 → ⊥) → then (atCell n i k) g ≡ cond (ltb i k) (finding n i NONE) g
+run-then n i k g h = by-test (ltb i k) (λ b. rw (b, ne-eqb n 0 h)) (λ b. rw b)
+
+-- 10 to 16
+pub exercise-finds : (e : List ℕ) → firstBroken (exerciseGroup e)
+    ≡ then (finding (exerciseNumber e) NONE NONE)
+    (cond (ltb (firstFrom (malformed e) 0 (cellCount e)) (cellCount e)) (finding 15 (firstFrom (malformed e) 0 (cellCount e)) NONE)
+    (atCell 16 (firstFrom (doubleDriver e) 0 (cellCount e)) (cellCount e)))
+unfolding exerciseGroup exerciseNumber Every
+exercise-finds e =
+    in-turn (ofSheet (exerciseChecks e)) (perCell 15 (malformed e) (cellNumbers e) ++ perCell 16 (doubleDriver e) (cellNumbers e)) (exercise-known e)
+    ∙ rw (sheet-finds (exerciseChecks e), in-turn (perCell 15 (malformed e) (cellNumbers e)) (perCell 16 (doubleDriver e) (cellNumbers e)) (run-15 e), run-finds 15 (malformed e) (cellCount e), run-finds 16 (doubleDriver e) (cellCount e), run-then 15 (firstFrom (malformed e) 0 (cellCount e)) (cellCount e) (atCell 16 (firstFrom (doubleDriver e) 0 (cellCount e)) (cellCount e)) (λ z. omega arith))
+
+sheet-known : (a : List ℕ) → Every To51 (ofSheet (answerChecks a))
+unfolding Every
+sheet-known a = search needs
+
+-- 20 to 26
+pub answer-finds : (e a : List ℕ) → firstBroken (answerGroup e a)
+    ≡ then (finding (answerNumber a) NONE NONE)
+    (cond (not (eqb (placeCount a) (cellCount e))) (finding 24 NONE NONE)
+    (cond (wrongAnswerLength a) (finding 25 NONE NONE)
+    (atCell 26 (firstFrom (outOfRangeAt a) 0 (cellCount e)) (cellCount e))))
+unfolding answerGroup answerNumber Every
+answer-finds e a =
+    in-turn (ofSheet (answerChecks a)) (check 24 (not (eqb (placeCount a) (cellCount e))) ∷ check 25 (wrongAnswerLength a) ∷ perCell 26 (outOfRangeAt a) (cellNumbers e)) (sheet-known a)
+    ∙ rw (sheet-finds (answerChecks a), run-finds 26 (outOfRangeAt a) (cellCount e))
+
+-- 30 to 44
+pub cells-finds : (e : List ℕ) → firstBroken (cellGroup e) ≡ numbered (cellNumber e) (cellCount e)
+unfolding cellGroup numbered cellNumber cellChecks
+cells-finds e =
+    cells-find (cellChecks e) (cellCount e)
+    (cell-numbered e)
+
+-- 50 and 51
+pub places-finds : (e a : List ℕ) → firstBroken (placeGroup e a)
+    ≡ cond (ltb (firstFrom (placeTaken e a) 0 (cellCount e)) (cellCount e)) (finding 50 (firstFrom (placeTaken e a) 0 (cellCount e)) NONE)
+    (atCell 51 (firstFrom (carryNotNext e a) 0 (cellCount e)) (cellCount e))
+unfolding placeGroup
+places-finds e a =
+    in-turn (perCell 50 (placeTaken e a) (cellNumbers e)) (perCell 51 (carryNotNext e a) (cellNumbers e)) (run-50 e a)
+    ∙ rw (run-finds 50 (placeTaken e a) (cellCount e), run-finds 51 (carryNotNext e a) (cellCount e), run-then 50 (firstFrom (placeTaken e a) 0 (cellCount e)) (cellCount e) (atCell 51 (firstFrom (carryNotNext e a) 0 (cellCount e)) (cellCount e)) (λ z. omega arith))
+
+-- 30 to 51
+pub cells-places-find : (e a : List ℕ) → firstBroken (cellGroup e ++ placeGroup e a) ≡ then (firstBroken (cellGroup e)) (firstBroken (placeGroup e a))
+unfolding cellGroup
+cells-places-find e a = in-turn (cellGroup e) (placeGroup e a) (cells-known e)
+
+-- 1 to 51
+pub to-51-finds : (e a : List ℕ) (r : ℕ) → firstBroken (checksTo51 e a r)
+    ≡ cond (not (eqb r 8192)) (finding 1 NONE NONE)
+    (then (firstBroken (exerciseGroup e)) (then (firstBroken (answerGroup e a)) (firstBroken (cellGroup e ++ placeGroup e a))))
+unfolding checksTo51 roomChecks
+to-51-finds e a r =
+    rw (in-turn (exerciseGroup e) (answerGroup e a ++ (cellGroup e ++ placeGroup e a)) (group-known e), in-turn (answerGroup e a) (cellGroup e ++ placeGroup e a) (answer-known e a))

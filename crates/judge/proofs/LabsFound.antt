@@ -1,0 +1,86 @@
+-- The lists by LAB give each LAB its cells, so the results found from them are those of document 01's rules. Assumes nothing.
+use Prim.Native.Nat.{ℕ, zero, suc, _+_, _<_}
+use native.Mathlib.Omega.{arith}
+use mathlib.Core.Path.{_≡_, refl, sym, ap, _∙_}
+use mathlib.Core.Bool.{true, not}
+use mathlib.Core.List.{List}
+use lib.ListN.{length, replicate}
+use lib.Dec.{eqb, ltb}
+use borrow.Author.Tests.{ltb-true, eqb-true, eqb-false, eq-eqb, not-true, not-false}
+use Rattle.sheet.specs.Lists.{concatMap, from, below, firstFrom}
+use Rattle.sheet.specs.Exercise.{netCount, cellCount}
+use Rattle.sheet.proofs.Laws.{by-test}
+use Rattle.route.specs.Table.{Table}
+use Rattle.lab.specs.Rules.{labChecks, labNumber, routeOf, labResult}
+use Rattle.lab.specs.Counts.{AllFit}
+use Rattle.lab.specs.declared.LabResult.{LabResult}
+use Rattle.netlist.specs.Cells.{cell}
+use Rattle.labs.specs.Members.{Links, members, linkBelow}
+use Rattle.labs.specs.Results.{resultAt, routeByte, rowFrom}
+use Rattle.labs.proofs.Linked.{walk-members}
+use Rattle.labs.proofs.Labs.{result-is-lab}
+use Rattle.labs.proofs.Rows.{rows-are, bytes-eight}
+use Rattle.judge.specs.Judge.{NONE, labCells, labGroup, firstBroken}
+use Rattle.judge.specs.Stages.{numberedLab}
+use Rattle.judge.proofs.Broken.{labs-find}
+use Rattle.judge.proofs.Numbers.{lab-numbered}
+use Rattle.judge.proofs.Sound.{Sound, first-below, none-below, some-below}
+
+-- two numberings that agree on the LABs find the same
+labs-same : (g h : ℕ → ℕ) → ((l : ℕ) → l < 1024 → g l ≡ h l) → numberedLab g ≡ numberedLab h
+unfolding numberedLab
+labs-same g h e =
+    let first : firstFrom (λ l. not (eqb (g l) 0)) 0 1024 ≡ firstFrom (λ l. not (eqb (h l) 0)) 0 1024 = first-below (λ l. not (eqb (g l) 0)) (λ l. not (eqb (h l) 0)) 1024 (λ l b. rw (e l b)) in
+    by-test (ltb (firstFrom (λ l. not (eqb (h l) 0)) 0 1024) 1024)
+    (λ p. rw (first, p, e (firstFrom (λ l. not (eqb (h l) 0)) 0 1024) (ltb-true _ 1024 p)))
+    (λ p. rw (first, p))
+
+pub labs-finds : (t : Table) (e a : List ℕ) → firstBroken (labGroup t e a) ≡ numberedLab (λ l. labNumber t (labCells e a l))
+unfolding labGroup numberedLab labNumber
+labs-finds t e a = labs-find (λ l. labChecks t (labCells e a l)) 1024 (λ l. lab-numbered t (labCells e a l))
+
+-- the lists by LAB of the answer
+abbrev pub linked : List ℕ → ℕ → Links
+linked a n = linkBelow a (record { first = replicate 1024 NONE; next = replicate 512 NONE }) n
+
+module _ (t : Table) (e a : List ℕ) (s : Sound e) (fits : (l : ℕ) → AllFit (labCells e a l)) where
+  abbrev resultOfLab : ℕ → LabResult
+  resultOfLab l = resultAt t (netCount e) e (linked a (cellCount e) .first) (linked a (cellCount e) .next) l
+
+  pub result-at : (l : ℕ) → l < 1024 → resultOfLab l ≡ labResult t (labCells e a l)
+  unfolding resultAt labCells cell
+  result-at l h = rw (walk-members a (cellCount e) l (s .cells) h) (result-is-lab t (netCount e) e (members a (cellCount e) l) (fits l))
+
+  -- 60 to 65
+  pub labs-are : numberedLab (λ l. resultOfLab l .number) ≡ firstBroken (labGroup t e a)
+  unfolding labResult
+  labs-are = labs-same _ (λ l. labNumber t (labCells e a l)) (λ l h. ap (λ (r : LabResult). r .number) (result-at l h)) ∙ sym (labs-finds t e a)
+
+  -- the route bytes, where no LAB is broken
+  module _ (held : firstBroken (labGroup t e a) .number ≡ 0) where
+    none-broken : (l : ℕ) → l < 1024 → labNumber t (labCells e a l) ≡ 0
+    unfolding numberedLab
+    none-broken l h =
+        let z : numberedLab (λ k. labNumber t (labCells e a k)) .number ≡ 0 = rw labs-finds at held in
+        by-test (ltb (firstFrom (λ k. not (eqb (labNumber t (labCells e a k)) 0)) 0 1024) 1024)
+        (λ p. absurd (found-zero (λ k. labNumber t (labCells e a k)) p (rw p at z)))
+        (λ p. eqb-true _ 0 (not-false _ (none-below (λ k. not (eqb (labNumber t (labCells e a k)) 0)) 1024 p l h)))
+      where
+        found-zero : (g : ℕ → ℕ) → ltb (firstFrom (λ k. not (eqb (g k) 0)) 0 1024) 1024 ≡ true → g (firstFrom (λ k. not (eqb (g k) 0)) 0 1024) ≡ 0 → ⊥
+        found-zero g p q = eqb-false (g (firstFrom (λ k. not (eqb (g k) 0)) 0 1024)) 0 (not-true _ (some-below (λ k. not (eqb (g k) 0)) 1024 p)) q
+
+    bytes-are : (l : ℕ) → l < 1024 → resultOfLab l .bytes ≡ routeOf t (labCells e a l)
+    unfolding labResult
+    bytes-are l h = ap (λ (r : LabResult). r .bytes) (result-at l h) ∙ rw (eq-eqb (labNumber t (labCells e a l)) 0 (none-broken l h))
+
+    rows-same : (g h : ℕ → List ℕ) (i k : ℕ) → ((l : ℕ) → l < i + k → g l ≡ h l) → concatMap g (from i k) ≡ concatMap h (from i k)
+    rows-same g h i zero q = refl
+    rows-same g h i (suc k) q = rw (q i (omega arith), rows-same g h (suc i) k (λ l b. q l (omega arith)))
+
+    eight : (l : ℕ) → length (resultOfLab l .bytes) ≡ 8
+    unfolding resultAt
+    eight l = bytes-eight t (netCount e) e _
+
+    pub routes-are : rowFrom (routeByte t (netCount e) e (linked a (cellCount e) .first) (linked a (cellCount e) .next)) 0 8192 ≡ concatMap (λ l. routeOf t (labCells e a l)) (below 1024)
+    unfolding routeByte
+    routes-are = rows-are (λ l. resultOfLab l .bytes) 1024 (λ l h. eight l) ∙ rows-same (λ l. resultOfLab l .bytes) (λ l. routeOf t (labCells e a l)) 0 1024 (λ l h. bytes-are l (omega arith))

@@ -1,0 +1,15 @@
+pub mod Broken
+pub mod Numbers
+pub mod Groups
+pub mod Sound
+pub mod LabsFound
+pub mod FitCells
+pub mod Held
+pub mod EightBytes
+pub mod RouteHeld
+pub mod Demand1
+pub mod Demand2
+pub mod Refusal65
+pub mod Demand3
+pub mod Steps
+pub mod Ring

@@ -1,0 +1,122 @@
+-- The numbers of the checks are those of document 01's table: 1 to 51, then 60 to 65 of the LABs. Assumes nothing.
+use Prim.Native.Nat.{ℕ, _≤_}
+use mathlib.Core.Path.{_≡_}
+use mathlib.Core.Bool.{Bool, true}
+use mathlib.Core.List.{List, [], _∷_, _++_, map}
+use native.Mathlib.Omega.{arith}
+use borrow.Author.Needs.{needs}
+use Rattle.sheet.specs.Lists.{concatMap, elemb, below}
+use Rattle.sheet.specs.Exercise.{exerciseChecks}
+use Rattle.sheet.specs.declared.Record.{Record}
+use Rattle.sheet.specs.declared.Record.the-variants.{Combinational, Register, Malformed}
+use Rattle.route.specs.Table.{Table}
+use Rattle.lab.specs.Rules.{labRules, labChecks}
+use Rattle.netlist.specs.Cells.{cell, cellNumbers, checksOf, cellChecks}
+use Rattle.judge.specs.Judge.{Check, cellCheck, perCell, ofSheet, ofCell, ofLab, labCells, roomChecks, exerciseGroup, answerGroup, cellGroup, placeGroup, labGroup, checksTo51, checks}
+use Rattle.judge.specs.Demands.{numbers}
+use Rattle.judge.proofs.Broken.{Every, Numbered, NumberedIn}
+
+-- ---- of every element
+pub every-append : {A : Type 0} (P : A → Type 0) (xs ys : List A) → Every P xs → Every P ys → Every P (xs ++ ys)
+unfolding Every
+every-append P [] ys h g = g
+every-append P (x ∷ xs) ys h g = (h .0, every-append P xs ys (h .1) g)
+
+module _ {A : Type 0} where
+  pub every-weaker : (P Q : A → Type 0) → ((x : A) → P x → Q x) → (xs : List A) → Every P xs → Every Q xs
+  unfolding Every
+  every-weaker P Q w [] h = tt
+  every-weaker P Q w (x ∷ xs) h = (w x (h .0), every-weaker P Q w xs (h .1))
+
+  module _ {B : Type 0} (Q : B → Type 0) where
+    every-image : (f : A → B) → ((x : A) → Q (f x)) → (xs : List A) → Every Q (map f xs)
+    unfolding Every
+    every-image f h [] = tt
+    every-image f h (x ∷ xs) = (h x, every-image f h xs)
+
+    every-joined : (f : A → List B) → ((x : A) → Every Q (f x)) → (xs : List A) → Every Q (concatMap f xs)
+    unfolding Every
+    every-joined f h [] = tt
+    every-joined f h (x ∷ xs) = every-append Q (f x) (concatMap f xs) (h x) (every-joined f h xs)
+
+-- ---- a number of the table, from lo to hi
+pub record Known (lo hi n : ℕ) : Type 0 where
+  pub listed : elemb n numbers ≡ true
+  pub least : lo ≤ n
+  pub most : n ≤ hi
+
+abbrev pub To51 : Check → Type 0
+To51 k = Known 1 51 (k .finding .number)
+
+abbrev pub To65 : Check → Type 0
+To65 k = Known 1 65 (k .finding .number)
+
+pub known-numbered : (hi : ℕ) (ks : List Check) → Every (λ k. Known 1 hi (k .finding .number)) ks → Numbered ks
+known-numbered hi ks h = every-weaker (λ k. Known 1 hi (k .finding .number)) _ (λ k g z. let l = g .least in omega arith) ks h
+
+-- ---- the parts of the list of checks
+pub run-known : (n : ℕ) → Known 1 51 n → (f : ℕ → Bool) (all : List ℕ) → Every To51 (perCell n f all)
+run-known n h f all = every-image To51 (λ i. cellCheck n i (f i)) (λ i. h) all
+
+pub room-known : (r : ℕ) → Every To51 (roomChecks r)
+unfolding roomChecks Every
+room-known r = search needs
+
+pub exercise-known : (e : List ℕ) → Every To51 (ofSheet (exerciseChecks e))
+unfolding Every
+exercise-known e = search needs
+
+ruleset runs = (run-known, needs)
+
+pub answer-known : (e a : List ℕ) → Every To51 (answerGroup e a)
+unfolding answerGroup Every
+answer-known e a = search runs depth 20
+
+cell-known : (e : List ℕ) (i j : ℕ) (c : Record) → Every To51 (ofCell j (checksOf e i c))
+unfolding Every
+cell-known e i j (Combinational c) = search needs
+cell-known e i j (Register r) = search needs
+cell-known e i j Malformed = tt
+
+pub cells-known : (e : List ℕ) → Every To51 (cellGroup e)
+unfolding cellGroup cellChecks
+cells-known e = every-joined To51 (λ i. ofCell i (cellChecks e i)) (λ i. cell-known e i i (cell e i)) (cellNumbers e)
+
+of-kind-numbered : (e : List ℕ) (i : ℕ) (c : Record) → NumberedIn (checksOf e i c)
+unfolding Every
+of-kind-numbered e i (Combinational c) = search needs
+of-kind-numbered e i (Register r) = search needs
+of-kind-numbered e i Malformed = tt
+
+pub cell-numbered : (e : List ℕ) (i : ℕ) → NumberedIn (cellChecks e i)
+unfolding cellChecks
+cell-numbered e i = of-kind-numbered e i (cell e i)
+
+pub rules-known : (cs : List Record) → Every (λ k. Known 60 64 (k .number)) (labRules cs)
+unfolding Every
+rules-known cs = search needs
+
+lab-known : (t : Table) (cs : List Record) (l : ℕ) → Every To65 (ofLab l (labChecks t cs))
+unfolding Every
+lab-known t cs l = search needs
+
+pub lab-numbered : (t : Table) (cs : List Record) → NumberedIn (labChecks t cs)
+unfolding Every
+lab-numbered t cs = search needs
+
+-- ---- all checks
+ruleset parts = (every-append, run-known, room-known, exercise-known, answer-known, cells-known, needs)
+
+pub to-51-known : (e a : List ℕ) (r : ℕ) → Every To51 (checksTo51 e a r)
+unfolding checksTo51 exerciseGroup placeGroup
+to-51-known e a r = search parts depth 20
+
+pub all-known : (t : Table) (e a : List ℕ) (r : ℕ) → Every To65 (checks t e a r)
+unfolding checks labGroup
+all-known t e a r =
+    every-append To65 (checksTo51 e a r) _
+    (every-weaker To51 To65 (λ k h. search needs) (checksTo51 e a r) (to-51-known e a r))
+    (every-joined To65 (λ l. ofLab l (labChecks t (labCells e a l))) (λ l. lab-known t (labCells e a l) l) (below 1024))
+
+pub all-numbered : (t : Table) (e a : List ℕ) (r : ℕ) → Numbered (checks t e a r)
+all-numbered t e a r = known-numbered 65 (checks t e a r) (all-known t e a r)

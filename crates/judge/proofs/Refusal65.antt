@@ -1,0 +1,213 @@
+-- Refusal 65 names a LAB exactly when the four things of demand 3 are true of it. Assumes nothing.
+use Prim.Native.Nat.{ℕ, zero, suc, _+_, _<_, _≤_}
+use mathlib.Core.Path.{_≡_, refl, sym, ap, _∙_}
+use mathlib.Core.Logic.{_↔_, ⊎-elim}
+use mathlib.Core.Bool.{Bool, true, false, cond, not, true≢false}
+use mathlib.Core.List.{List, [], _∷_, _++_}
+use mathlib.Core.Option.{Option, none, some}
+use native.Mathlib.Nat.{eq-or-lt-of-le}
+use native.Mathlib.Decide.{decLt}
+use native.Mathlib.Omega.{arith}
+use lib.Dec.{eqb, ltb}
+use borrow.Author.Tests.{eqb-true, ne-eqb, lt-ltb}
+use Rattle.sheet.specs.Lists.{concatMap, filterb, from, below, firstFrom}
+use Rattle.sheet.specs.Checks as sheet
+use Rattle.sheet.specs.Exercise.{cellCount}
+use Rattle.sheet.specs.declared.Record.{Record}
+use Rattle.sheet.proofs.Laws.{by-test}
+use Rattle.route.specs.Table.{Table}
+use Rattle.route.specs.Way.{Way}
+use Rattle.route.specs.Route.{firstWay}
+use Rattle.route.proofs.Ways.{first-way-none, first-way-some, first-way-found, no-needs}
+use Rattle.lab.specs.Ports.{inLab}
+use Rattle.lab.specs.Rules.{needs, isNone, noWay, labRules, labChecks}
+use Rattle.placing.specs.Places.{labAt, outOfRangeAt}
+use Rattle.labs.specs.Members.{members}
+use Rattle.judge.specs.declared.Finding.{Finding}
+use Rattle.judge.specs.Judge.{Check, NONE, finding, perCell, ofLab, labCells, roomChecks, exerciseGroup, answerGroup, labGroup, checksTo51, checks, firstBroken, judged, verdictOf}
+use Rattle.judge.specs.Demands.{AllHold, FourThings, Keeps60to64, Keeps65, labNeeds}
+use Rattle.judge.proofs.Broken.{Every, Numbered, NumberedIn, found, skip-held, hold-append, first-append, legal-hold, breaksOne, labs-find}
+use Rattle.judge.proofs.Numbers.{Known, To51, every-weaker, known-numbered, rules-known, lab-numbered, to-51-known}
+use Rattle.placing.proofs.Places.{lab-in-range}
+
+-- ---- 65 is broken exactly where there is no way
+is-none : (o : Option (List ℕ)) → isNone o ≡ true → o ≡ none
+is-none none q = refl
+is-none (some w) q = absurd (true≢false (sym q))
+
+is-some : (o : Option (List ℕ)) → isNone o ≡ false → (w : List ℕ) × (o ≡ some w)
+is-some none q = absurd (true≢false q)
+is-some (some w) q = (w, refl)
+
+module _ (t : Table) (cs : List Record) where
+  stuck : (noWay t cs ≡ true) ↔ ((w : List ℕ) → Way t (needs cs) w → ⊥)
+  unfolding noWay
+  stuck = (λ q. first-way-none t (needs cs) .0 (is-none (firstWay t (needs cs)) q), λ h. ap isNone (first-way-none t (needs cs) .1 h))
+
+  goes : (noWay t cs ≡ false) ↔ ((w : List ℕ) × Way t (needs cs) w)
+  unfolding noWay
+  goes = (
+    λ q. let s = is-some (firstWay t (needs cs)) q in (s .0, first-way-some t (needs cs) (s .0) (s .1) .0),
+    λ p. ap isNone (first-way-found t (needs cs) (p .0) (p .1) .1),
+  )
+
+-- ---- the number of one LAB: 65 where its rules hold and 65 does not, 0 where all hold
+differs : (n : ℕ) (b : Bool) → Known 60 64 n → n ≡ cond b 65 0 → ⊥
+differs n true k e = let m = k .most in omega arith
+differs n false k e = let l = k .least in omega arith
+
+same-test : (c b : Bool) → _≡_ {A = ℕ} (cond c 65 0) (cond b 65 0) → c ≡ b
+same-test true true e = refl
+same-test true false e = absurd (omega arith)
+same-test false true e = absurd (omega arith)
+same-test false false e = refl
+
+module _ (l : ℕ) (c b : Bool) where
+  from-number : (ks : List sheet.Check) → Every (λ k. Known 60 64 (k .number)) ks
+      → sheet.firstNumber (ks ++ sheet.check 65 c ∷ []) ≡ cond b 65 0
+      → AllHold (ofLab l ks) × (c ≡ b)
+  unfolding Every AllHold
+  from-number [] h e = (tt, same-test c b e)
+  from-number (k ∷ ks) h e =
+      by-test (k .broken) (λ q. absurd (differs (k .number) b (h .0) (rw q at e)))
+      (λ q. let g = from-number ks (h .1) (rw q at e) in ((q, g .0), g .1))
+
+  to-number : (ks : List sheet.Check) → AllHold (ofLab l ks) → c ≡ b → sheet.firstNumber (ks ++ sheet.check 65 c ∷ []) ≡ cond b 65 0
+  unfolding AllHold
+  to-number [] h q = rw q
+  to-number (k ∷ ks) h q = rw (h .0) (to-number ks (h .1) q)
+
+-- ---- the first number at which a test holds
+module _ (f : ℕ → Bool) where
+  before-first : (k i j : ℕ) → i ≤ j → j < firstFrom f i k → f j ≡ false
+  unfolding firstFrom
+  before-first zero i j h g = absurd (omega arith)
+  before-first (suc k) i j h g =
+      by-test (f i) (λ q. let g′ : j < i = rw q at g in absurd (omega arith))
+      (λ q. ⊎-elim (λ e. rw (← e) q) (λ m. before-first k (suc i) j m (rw q at g)) (eq-or-lt-of-le h))
+
+  first-is : (k i l : ℕ) → i ≤ l → l < i + k → ((j : ℕ) → i ≤ j → j < l → f j ≡ false) → f l ≡ true → firstFrom f i k ≡ l
+  unfolding firstFrom
+  first-is zero i l h m low q = absurd (omega arith)
+  first-is (suc k) i l h m low q =
+      ⊎-elim (λ e. let here : f i ≡ true = rw e q in rw here e)
+      (λ n. rw (low i (omega arith) n) (first-is k (suc i) l n (omega arith) (λ j a b. low j (omega arith) b) q))
+      (eq-or-lt-of-le h)
+
+unset : (n : ℕ) → not (eqb n 0) ≡ false → n ≡ 0
+unset n h = by-test (eqb n 0) (λ q. eqb-true n 0 q) (λ q. absurd (true≢false (rw q at h)))
+
+-- ---- the first LAB that breaks a check has n as its number; g j are the checks of LAB j
+module _ (g : ℕ → List sheet.Check) (numbered : (j : ℕ) → NumberedIn (g j)) (k l n : ℕ) (some-number : n ≡ 0 → ⊥) where
+  abbrev first : Finding
+  first = firstBroken (concatMap (λ j. ofLab j (g j)) (below k))
+
+  abbrev at-first : ℕ
+  at-first = firstFrom (breaksOne g) 0 k
+
+  lab-from : first .number ≡ n → first .lab ≡ l → ((j : ℕ) → j < l → sheet.firstNumber (g j) ≡ 0) × (sheet.firstNumber (g l) ≡ n)
+  lab-from u v =
+      let finds = labs-find g k numbered in
+      by-test (ltb at-first k)
+      (λ q. let here : first ≡ finding (sheet.firstNumber (g at-first)) NONE at-first = rw q at finds in
+      let is : at-first ≡ l = rw here at v in
+      (λ j h. unset (sheet.firstNumber (g j)) (before-first (breaksOne g) k 0 j (omega arith) (omega arith)), rw is at (rw here at u)))
+      (λ q. absurd (some-number (sym (rw (finds, q) at u))))
+
+  lab-to : l < k → ((j : ℕ) → j < l → sheet.firstNumber (g j) ≡ 0) → sheet.firstNumber (g l) ≡ n → first ≡ finding n NONE l
+  lab-to h low u =
+      let is : at-first ≡ l = first-is (breaksOne g) k 0 l (omega arith) (omega arith) (λ j a b. rw (low j b)) (rw (u, ne-eqb n 0 some-number)) in
+      labs-find g k numbered ∙ rw (is, lt-ltb l k h, u)
+
+-- ---- a LAB that has no way has a cell, so its number is below 1024
+hold-run : (n : ℕ) (f : ℕ → Bool) (k i j : ℕ) → AllHold (perCell n f (from i k)) → i ≤ j → j < i + k → f j ≡ false
+unfolding AllHold
+hold-run n f zero i j h a b = absurd (omega arith)
+hold-run n f (suc k) i j h a b = ⊎-elim (λ e. rw (← e) (h .0)) (λ m. hold-run n f k (suc i) j (h .1) m (omega arith)) (eq-or-lt-of-le a)
+
+none-pass : (p : ℕ → Bool) (k i : ℕ) → ((j : ℕ) → i ≤ j → j < i + k → p j ≡ false) → filterb p (from i k) ≡ []
+none-pass p zero i h = refl
+none-pass p (suc k) i h = rw (h i (omega arith) (omega arith)) (none-pass p k (suc i) (λ j a b. h j (omega arith) (omega arith)))
+
+module _ (e a : List ℕ) where
+  -- 26 is among the checks to 51
+  places-hold : (r : ℕ) → AllHold (checksTo51 e a r) → (i : ℕ) → i < cellCount e → outOfRangeAt a i ≡ false
+  unfolding checksTo51 answerGroup AllHold
+  places-hold r h i m =
+      let after = hold-append (exerciseGroup e) _ (hold-append (roomChecks r) _ h .1) .1 in
+      let answer = hold-append (answerGroup e a) _ after .0 in
+      hold-run 26 (outOfRangeAt a) (cellCount e) 0 i (answer .1 .1 .1 .1 .1 .1) (omega arith) (omega arith)
+
+  nobody : (r l : ℕ) → AllHold (checksTo51 e a r) → 1024 ≤ l → labCells e a l ≡ []
+  unfolding labCells members
+  nobody r l h g =
+      rw (none-pass (λ i. eqb (labAt a i) l) (cellCount e) 0
+      (λ i _ m. ne-eqb (labAt a i) l (λ q. omega (arith, lab-in-range a i (places-hold r h i (omega arith))))))
+
+module _ (t : Table) (e a : List ℕ) (r l : ℕ) where
+  on-board : FourThings t e a r l → l < 1024
+  unfolding labNeeds needs inLab
+  on-board f =
+      let alone : 1024 ≤ l → Way t (labNeeds t e a l) [] = λ h. rw (nobody e a r l (f .to-51-hold) h) (first-way-some t [] [] (no-needs t) .0) in
+      elim (decLt l 1024) [ yes h ↦ h | no h ↦ absurd (f .has-no-way [] (alone (omega arith))) ]
+
+  abbrev cells : ℕ → List Record
+  cells = labCells e a
+
+  abbrev rules : ℕ → List sheet.Check
+  rules j = labChecks t (cells j)
+
+  numbered : (j : ℕ) → NumberedIn (rules j)
+  numbered j = lab-numbered t (cells j)
+
+  -- the number of LAB j
+  number-told : (j : ℕ) (b : Bool)
+      → (sheet.firstNumber (rules j) ≡ cond b 65 0) ↔ (AllHold (ofLab j (labRules (cells j))) × (noWay t (cells j) ≡ b))
+  number-told j b =
+      let w = noWay t (cells j) in
+      let ks = labRules (cells j) in
+      (from-number j w b ks (rules-known (cells j)), λ h. to-number j w b ks (h .0) (h .1))
+
+  four-things : AllHold (checksTo51 e a r) → firstBroken (labGroup t e a) .number ≡ 65 → firstBroken (labGroup t e a) .lab ≡ l
+      → FourThings t e a r l
+  unfolding labGroup Keeps60to64 Keeps65 labNeeds
+  four-things h n p =
+      let low = lab-from rules numbered 1024 l 65 (λ q. omega arith) n p in
+      let here = number-told l true .0 (low .1) in
+      record {
+        to-51-hold = h;
+        lower-keep = λ j m. let k = number-told j false .0 (low .0 j m) in (k .0, goes t (cells j) .0 (k .1));
+        keeps-to-64 = here .0;
+        has-no-way = stuck t (cells l) .0 (here .1);
+      }
+
+  found-65 : FourThings t e a r l → firstBroken (checks t e a r) ≡ finding 65 NONE l
+  unfolding checks labGroup Keeps60to64 Keeps65 labNeeds
+  found-65 f =
+      skip-held (checksTo51 e a r) (labGroup t e a) (f .to-51-hold)
+      ∙ lab-to rules numbered 1024 l 65 (λ q. omega arith) (on-board f)
+      (λ j m. let k = f .lower-keep j m in number-told j false .1 (k .0, goes t (cells j) .1 (k .1)))
+      (number-told l true .1 (f .keeps-to-64, stuck t (cells l) .1 (f .has-no-way)))
+
+  abbrev early : List Check
+  early = checksTo51 e a r
+
+  early-numbered : Numbered early
+  early-numbered = known-numbered 51 early (to-51-known e a r)
+
+  -- a finding of number 65 is none of 1 to 51
+  early-held : firstBroken (early ++ labGroup t e a) .number ≡ 65 → AllHold early
+  early-held n =
+      by-test (eqb (firstBroken early .number) 0) (λ q. legal-hold early early-numbered (eqb-true (firstBroken early .number) 0 q))
+      (λ q. let is = rw q at (first-append early (labGroup t e a) early-numbered) in
+      let most = found (λ f. f .number ≤ 51) (omega arith) early (every-weaker To51 _ (λ k h. h .most) early (to-51-known e a r)) in
+      absurd (omega (arith, rw is at n)))
+
+  pub refusal-65 : ((judged t e a r .number ≡ 65) × (judged t e a r .lab ≡ l)) ↔ FourThings t e a r l
+  unfolding judged verdictOf checks
+  refusal-65 = (
+    λ p. let held = early-held (p .0) in
+        let later = skip-held early (labGroup t e a) held in
+        four-things held (rw later at (p .0)) (rw later at (p .1)),
+    λ f. (ap (λ (x : Finding). x .number) (found-65 f), ap (λ (x : Finding). x .lab) (found-65 f)),
+  )

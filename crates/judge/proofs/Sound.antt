@@ -1,0 +1,161 @@
+-- What the tables by net and the lists by LAB say of sheets that pass the stages before: they answer document 01's rules. Assumes nothing.
+use Prim.Native.Nat.{ℕ, zero, suc, _+_, _≤_, _<_}
+use native.Mathlib.Omega.{arith}
+use mathlib.Core.Path.{_≡_, refl, sym, _∙_}
+use mathlib.Core.Bool.{Bool, true, false, cond, not, _&&_, and-assoc}
+use mathlib.Core.List.{List, [], _∷_}
+use lib.ListN.{length}
+use lib.Dec.{eqb, ltb}
+use borrow.Author.Tests.{ltb-true, ltb-false, eqb-true, eqb-false, eq-eqb, not-true, not-false}
+use Rattle.sheet.specs.Lists.{firstFrom}
+use Rattle.sheet.specs.Signal.{isNet, isInverted}
+use Rattle.sheet.specs.Checks as sheet
+use Rattle.sheet.specs.Checks.{check, firstNumber}
+use Rattle.sheet.specs.Exercise.{netCount, cellCount, wrongMark, wrongVersion, overLimit, wrongExerciseLength, exerciseNumber}
+use Rattle.sheet.specs.declared.Record.{Record}
+use Rattle.sheet.specs.declared.Record.the-variants.{Combinational, Register, Malformed}
+use Rattle.sheet.proofs.Laws.{by-test}
+use Rattle.netlist.specs.Cells.{cell, malformed, doubleDriver, cellNumber}
+use Rattle.netlist.specs.Tables.{cellFor, numberAt}
+use Rattle.netlist.proofs.Below.{or-parts}
+use Rattle.netlist.proofs.Carry.{fed-by, number-is, reads, readers, drivers}
+use Rattle.placing.specs.Places.{follows, detachedBy, detachedAt}
+use Rattle.judge.specs.declared.Finding.{Finding}
+use Rattle.judge.specs.Judge.{NONE, finding, legal, standsApart, carryNotNext, exerciseGroup, cellGroup, placeGroup, firstBroken}
+use Rattle.judge.specs.Stages.{numbered, atCell, placedBy}
+use Rattle.judge.proofs.Groups.{then, exercise-finds, cells-finds, places-finds}
+
+-- two tests that agree on the numbers looked at find the same
+pub first-same : (f g : ℕ → Bool) (i k : ℕ) → ((j : ℕ) → i ≤ j → j < i + k → f j ≡ g j) → firstFrom f i k ≡ firstFrom g i k
+unfolding firstFrom
+first-same f g i zero h = refl
+first-same f g i (suc k) h = rw (h i (omega arith) (omega arith), first-same f g (suc i) k (λ j p q. h j (omega arith) (omega arith)))
+
+pub first-below : (f g : ℕ → Bool) (n : ℕ) → ((j : ℕ) → j < n → f j ≡ g j) → firstFrom f 0 n ≡ firstFrom g 0 n
+first-below f g n h = first-same f g 0 n (λ j p q. h j (omega arith))
+
+-- a scan that comes to the end has found nothing on the way
+none-from : (f : ℕ → Bool) (i k : ℕ) → i + k ≤ firstFrom f i k → (j : ℕ) → i ≤ j → j < i + k → f j ≡ false
+unfolding firstFrom
+none-from f i zero h j p q = absurd (omega arith)
+none-from f i (suc k) h j p q =
+    by-test (f i) (λ t. let z : i + suc k ≤ i = rw t at h in absurd (omega arith))
+    (λ t. let g : i + suc k ≤ firstFrom f (suc i) k = rw t at h in
+    by-test (eqb j i) (λ m. rw (eqb-true j i m) t)
+    (λ m. none-from f (suc i) k (omega arith) j (after (eqb-false j i m)) (omega arith)))
+  where
+    after : (j ≡ i → ⊥) → suc i ≤ j
+    after d = omega arith
+
+pub none-below : (f : ℕ → Bool) (n : ℕ) → ltb (firstFrom f 0 n) n ≡ false → (j : ℕ) → j < n → f j ≡ false
+none-below f n h j q = let g = ltb-false (firstFrom f 0 n) n h in none-from f 0 n (omega arith) j (omega arith) (omega arith)
+
+-- a scan that stops before the end has found what it looked for
+some-from : (f : ℕ → Bool) (i k : ℕ) → firstFrom f i k < i + k → f (firstFrom f i k) ≡ true
+unfolding firstFrom
+some-from f i zero h = absurd (omega arith)
+some-from f i (suc k) h =
+    by-test (f i) (λ t. rw t t) (λ t. rw t (let g : firstFrom f (suc i) k < i + suc k = rw t at h in some-from f (suc i) k (omega arith)))
+
+pub some-below : (f : ℕ → Bool) (n : ℕ) → ltb (firstFrom f 0 n) n ≡ true → f (firstFrom f 0 n) ≡ true
+some-below f n h = let g = ltb-true (firstFrom f 0 n) n h in some-from f 0 n (omega arith)
+
+-- two numberings that agree below n find the same
+pub numbered-same : (g h : ℕ → ℕ) (n : ℕ) → ((i : ℕ) → i < n → g i ≡ h i) → numbered g n ≡ numbered h n
+unfolding numbered
+numbered-same g h n e =
+    let first : firstFrom (λ i. not (eqb (g i) 0)) 0 n ≡ firstFrom (λ i. not (eqb (h i) 0)) 0 n = first-below _ _ n (λ i b. rw (e i b)) in
+    by-test (ltb (firstFrom (λ i. not (eqb (h i) 0)) 0 n) n)
+    (λ t. rw (first, t, e (firstFrom (λ i. not (eqb (h i) 0)) 0 n) (ltb-true _ n t)))
+    (λ t. rw (first, t))
+
+-- what 13 and 16 say, as far as the tables need it
+pub record Sound (e : List ℕ) : Type 0 where
+  pub nets : netCount e ≤ 1024
+  pub cells : cellCount e ≤ 512
+  pub single : (i : ℕ) → i < cellCount e → doubleDriver e i ≡ false
+
+-- a numbering that finds nothing gives no number
+pub numbered-none : (g : ℕ → ℕ) (n : ℕ) → numbered g n .number ≡ 0 → (i : ℕ) → i < n → g i ≡ 0
+unfolding numbered
+numbered-none g n z i h =
+    by-test (ltb (firstFrom (λ j. not (eqb (g j) 0)) 0 n) n)
+    (λ p. absurd (eqb-false (g (firstFrom (λ j. not (eqb (g j) 0)) 0 n)) 0 (not-true _ (some-below (λ j. not (eqb (g j) 0)) n p)) (rw p at z)))
+    (λ p. eqb-true (g i) 0 (not-false _ (none-below (λ j. not (eqb (g j) 0)) n p i h)))
+
+module _ (e a : List ℕ) (s : Sound e) where
+  detached-cell : (i : ℕ) (c : Record) → detachedBy (drivers e 1024 (cellCount e)) a i c ≡ standsApart e a i c
+  unfolding detachedBy
+  detached-cell i (Combinational c) =
+      let d = cellFor (drivers e 1024 (cellCount e)) (c .cin .0) in
+      and-assoc (isNet (c .cin .0) && not (isInverted (c .cin .0))) (not (eqb d NONE)) (not (follows a d i))
+      ∙ sym (fed-by e (s .nets) (s .cells) (s .single) (c .cin .0) (λ j. not (follows a j i)))
+  detached-cell i (Register r) = refl
+  detached-cell i Malformed = refl
+
+  -- 51
+  pub detached-is : (i : ℕ) → detachedAt (drivers e 1024 (cellCount e)) a (netCount e) e i ≡ carryNotNext e a i
+  unfolding detachedAt carryNotNext cell
+  detached-is i = detached-cell i (cell e i)
+
+  -- 30 to 44
+  pub numbers-are : (i : ℕ) → i < cellCount e
+      → numberAt (reads e 1024 (cellCount e)) (readers e 1024 (cellCount e)) (drivers e 1024 (cellCount e)) (netCount e) e i ≡ cellNumber e i
+  unfolding cell
+  numbers-are i h = number-is e (s .nets) (s .cells) (s .single) i h
+
+  pub cells-are : numbered (numberAt (reads e 1024 (cellCount e)) (readers e 1024 (cellCount e)) (drivers e 1024 (cellCount e)) (netCount e) e) (cellCount e)
+      ≡ firstBroken (cellGroup e)
+  cells-are = numbered-same _ (cellNumber e) (cellCount e) numbers-are ∙ sym (cells-finds e)
+
+  -- 50 and 51
+  pub places-are : placedBy (drivers e 1024 (cellCount e)) (netCount e) (cellCount e) e a ≡ firstBroken (placeGroup e a)
+  unfolding placedBy
+  places-are =
+      let same = first-below (detachedAt (drivers e 1024 (cellCount e)) a (netCount e) e) (carryNotNext e a) (cellCount e) (λ i b. detached-is i) in
+      rw same (sym (places-finds e a))
+
+-- ---- what passing the stages says
+pub then-first : (f g : Finding) → then f g .number ≡ 0 → f .number ≡ 0
+then-first f g h =
+    by-test (eqb (f .number) 0) (λ t. eqb-true (f .number) 0 t) (λ t. rw t at h)
+
+pub then-second : (f g : Finding) → then f g .number ≡ 0 → g .number ≡ 0
+then-second f g h = let z = then-first f g h in rw (eq-eqb (f .number) 0 z) at h
+
+-- a run whose number is not 0 and that finds nothing came to its end
+run-passed : (n i k : ℕ) (g : Finding) → (n ≡ 0 → ⊥) → cond (ltb i k) (finding n i NONE) g .number ≡ 0 → (ltb i k ≡ false) × (g .number ≡ 0)
+run-passed n i k g d h = by-test (ltb i k) (λ t. absurd (d (rw t at h))) (λ t. (t, rw t at h))
+
+first-skips : (k : sheet.Check) (ks : List sheet.Check) → (k .number ≡ 0 → ⊥) → firstNumber (k ∷ ks) ≡ 0 → (k .broken ≡ false) × (firstNumber ks ≡ 0)
+first-skips k ks d h = by-test (k .broken) (λ t. absurd (d (rw t at h))) (λ t. (t, rw t at h))
+
+-- 13 holds
+pub limits : (e : List ℕ) → exerciseNumber e ≡ 0 → (netCount e ≤ 1024) × (cellCount e ≤ 512)
+unfolding exerciseNumber overLimit
+limits e h =
+    let k10 = check 10 (ltb (length e) 9) in
+    let k11 = check 11 (wrongMark 69 e) in
+    let k12 = check 12 (wrongVersion e) in
+    let k13 = check 13 (overLimit e) in
+    let k14 = check 14 (wrongExerciseLength e) in
+    let s1 = first-skips k10 (k11 ∷ k12 ∷ k13 ∷ k14 ∷ []) (λ z. omega arith) h in
+    let s2 = first-skips k11 (k12 ∷ k13 ∷ k14 ∷ []) (λ z. omega arith) (s1 .1) in
+    let s3 = first-skips k12 (k13 ∷ k14 ∷ []) (λ z. omega arith) (s2 .1) in
+    let s4 = first-skips k13 (k14 ∷ []) (λ z. omega arith) (s3 .1) in
+    let p = or-parts (ltb 1024 (netCount e)) (ltb 512 (cellCount e)) (s4 .0) in
+    (ltb-false 1024 (netCount e) (p .0), ltb-false 512 (cellCount e) (p .1))
+
+pub number-passed : (e : List ℕ) → firstBroken (exerciseGroup e) .number ≡ 0 → exerciseNumber e ≡ 0
+number-passed e h = then-first (finding (exerciseNumber e) NONE NONE) _ (rw exercise-finds at h)
+
+pub sound-of : (e : List ℕ) → firstBroken (exerciseGroup e) .number ≡ 0 → Sound e
+sound-of e h =
+    let n = number-passed e h in
+    let l = limits e n in
+    let r = then-second (finding (exerciseNumber e) NONE NONE) _ (rw exercise-finds at h) in
+    let n15 = firstFrom (malformed e) 0 (cellCount e) in
+    let n16 = firstFrom (doubleDriver e) 0 (cellCount e) in
+    let m = run-passed 15 n15 (cellCount e) (atCell 16 n16 (cellCount e)) (λ z. omega arith) r in
+    let d = run-passed 16 n16 (cellCount e) legal (λ z. omega arith) (m .1) in
+    record { nets = l .0; cells = l .1; single = none-below (doubleDriver e) (cellCount e) (d .0) }

@@ -1,0 +1,295 @@
+-- One law for each way out of a stage: what the calls answered on the way gives what the stage is to find. Assumes nothing.
+use Prim.Native.Nat.{ℕ, suc, _+_, _-_, _≤_, _<_}
+use native.Mathlib.Numerals.{add-one}
+use native.Mathlib.Omega.{arith}
+use mathlib.Core.Path.{_≡_, sym, ap, _∙_}
+use mathlib.Core.Bool.{Bool, true, false, cond, not}
+use mathlib.Core.List.{List, [], _∷_, _++_}
+use lib.ListN.{length, replicate}
+use lib.Dec.{eqb, ltb}
+use borrow.Author.Tests.{eq-eqb, ne-eqb, eqb-true, lt-ltb, le-ltb, le-leb, lt-leb}
+use Rattle.sheet.specs.Lists.{concatMap, filterb, from, below, firstFrom}
+use Rattle.sheet.specs.Exercise.{netCount, cellCount, exerciseNumber}
+use Rattle.sheet.specs.Answer.{answerNumber, placeCount, wrongAnswerLength, placeStart}
+use Rattle.route.specs.Table.{Table, houseBoard}
+use Rattle.lab.specs.Rules.{routeOf}
+use Rattle.sheet.proofs.Laws.{by-test, passes, stops}
+use Rattle.lab.specs.Counts.{AllFit}
+use Rattle.netlist.specs.Cells.{cell, malformed, doubleDriver, cellNumber}
+use Rattle.netlist.specs.Tables.{malformedAt, doubleFrom, readsBelow, readersBelow, driversBelow, numberBy, numberAt, brokenAt}
+use Rattle.netlist.proofs.Double.{double-is}
+use Rattle.placing.specs.Places.{labAt, outOfRangeAt, placeTaken, detachedAt}
+use Rattle.labs.specs.Members.{members}
+use Rattle.labs.specs.Results.{resultAt, brokenLab, routeByte, rowFrom}
+use Rattle.lab.specs.declared.LabResult.{LabResult}
+use Rattle.sheet.specs.Record.{recordAt}
+use Rattle.sheet.specs.declared.Record.{Record}
+use Rattle.judge.specs.declared.Finding.{Finding}
+use Rattle.judge.specs.declared.Part.{Part}
+use Rattle.judge.specs.declared.Verdict.{Verdict}
+use Rattle.judge.specs.Judge.{NONE, finding, legal, ofAnswer, exerciseGroup, answerGroup, cellGroup, placeGroup, labGroup, checksTo51, checks, labCells, firstBroken, firstOr, lowestIn, verdictOf, judged, bytesOf, routed}
+use Rattle.judge.specs.Stages.{numbered, numberedLab, placedBy, numbersOf}
+use Rattle.judge.proofs.Broken.{first-append}
+use Rattle.judge.proofs.Numbers.{known-numbered, to-51-known}
+use Rattle.judge.proofs.Groups.{then, exercise-finds, answer-finds, cells-finds, cells-places-find, to-51-finds}
+use Rattle.judge.proofs.FitCells.{lab-fit}
+use Rattle.judge.proofs.LabsFound.{linked, labs-are, routes-are}
+use Rattle.judge.proofs.Sound.{Sound, sound-of, limits, numbered-none, then-first, then-second, cells-are, places-are}
+
+-- ---- a finding, and the next where it is nothing
+then-stays : (f g : Finding) {r : Finding} → (f .number ≡ 0 → ⊥) → r ≡ f → r ≡ then f g
+then-stays f g h e = rw (ne-eqb (f .number) 0 h) e
+
+then-goes : (f g : Finding) {r : Finding} → f .number ≡ 0 → r ≡ g → r ≡ then f g
+then-goes f g h e = rw (eq-eqb (f .number) 0 h) e
+
+-- ---- 10 to 16
+module _ (e : List ℕ) (number : ℕ) (head : number ≡ exerciseNumber e) where
+  pub exercise-refused : {r : Finding} → (number ≡ 0 → ⊥) → r ≡ finding number NONE NONE → r ≡ firstBroken (exerciseGroup e)
+  exercise-refused h a =
+      rw exercise-finds (then-stays (finding (exerciseNumber e) NONE NONE) _ (λ z. h (head ∙ z)) (a ∙ ap (λ (n : ℕ). finding n NONE NONE) head))
+
+  module _ (nets cells i : ℕ) (none : number ≡ 0) (n : nets ≡ netCount e) (c : cells ≡ cellCount e) (at : i ≡ firstFrom (malformedAt nets e) 0 cells) where
+    first : i ≡ firstFrom (malformed e) 0 (cellCount e)
+    unfolding malformedAt malformed cell
+    first = at ∙ rw (n, c)
+
+    pub exercise-malformed : {r : Finding} → i < cells → r ≡ cond (ltb i cells) (finding 15 i NONE) legal → r ≡ firstBroken (exerciseGroup e)
+    exercise-malformed h a =
+        rw exercise-finds (then-goes (finding (exerciseNumber e) NONE NONE) _ (sym head ∙ none)
+        (rw (← first, ← c) (rw (lt-ltb i cells h) (a ∙ rw (lt-ltb i cells h)))))
+
+    pub exercise-driven : (d : ℕ) {r : Finding} → cells ≤ i → d ≡ doubleFrom nets e (replicate 1024 0) 0 cells → r ≡ cond (ltb d cells) (finding 16 d NONE) legal → r ≡ firstBroken (exerciseGroup e)
+    exercise-driven d h b a =
+        let l = limits e (sym head ∙ none) in
+        let s : d ≡ firstFrom (doubleDriver e) 0 cells = b ∙ rw n (double-is e cells (l .0)) in
+        rw exercise-finds (then-goes (finding (exerciseNumber e) NONE NONE) _ (sym head ∙ none)
+        (rw (← first, ← c) (rw (le-ltb i cells h, ← s) a)))
+
+pub ruleset exercise-steps = (exercise-refused, exercise-malformed, exercise-driven)
+
+-- ---- 20 to 26
+module _ (e a : List ℕ) (number : ℕ) (head : number ≡ answerNumber a) where
+  pub answer-refused : {r : Finding} → (number ≡ 0 → ⊥) → r ≡ finding number NONE NONE → r ≡ firstBroken (answerGroup e a)
+  answer-refused h q =
+      rw answer-finds (then-stays (finding (answerNumber a) NONE NONE) _ (λ z. h (head ∙ z)) (q ∙ ap (λ (n : ℕ). finding n NONE NONE) head))
+
+  module _ (cells places : ℕ) (none : number ≡ 0) (c : cells ≡ cellCount e) (p : places ≡ placeCount a) where
+    pub answer-count : {r : Finding} → (places ≡ cells → ⊥) → r ≡ finding 24 NONE NONE → r ≡ firstBroken (answerGroup e a)
+    answer-count h q =
+        rw answer-finds (then-goes (finding (answerNumber a) NONE NONE) _ (sym head ∙ none) (rw (← p, ← c) (rw (ne-eqb places cells h) q)))
+
+    module _ (b : Bool) (same : places ≡ cells) (w : b ≡ wrongAnswerLength a) where
+      pub answer-length : {r : Finding} → b ≡ true → r ≡ finding 25 NONE NONE → r ≡ firstBroken (answerGroup e a)
+      answer-length h q =
+          rw answer-finds (then-goes (finding (answerNumber a) NONE NONE) _ (sym head ∙ none) (rw (← p, ← c) (rw (eq-eqb places cells same, ← w, h) q)))
+
+      pub answer-range : (i : ℕ) {r : Finding} → b ≡ false → i ≡ firstFrom (outOfRangeAt a) 0 cells → r ≡ cond (ltb i cells) (finding 26 i NONE) legal → r ≡ firstBroken (answerGroup e a)
+      answer-range i h at q =
+          rw answer-finds (then-goes (finding (answerNumber a) NONE NONE) _ (sym head ∙ none) (rw (← p, ← c) (rw (eq-eqb places cells same, ← w, h, ← at) q)))
+
+pub ruleset answer-steps = (answer-refused, answer-count, answer-length, answer-range)
+
+-- ---- the first number that is not 0
+module _ (g : ℕ → ℕ) where
+  pub cell-stops : (cells i n : ℕ) {r : Finding} → i ≡ firstFrom (λ j. not (eqb (g j) 0)) 0 cells → i < cells → n ≡ g i → r ≡ cond (ltb i cells) (finding n i NONE) legal → r ≡ numbered g cells
+  unfolding numbered
+  cell-stops cells i n at h e a = rw (← at) (rw (lt-ltb i cells h, ← e) (a ∙ rw (lt-ltb i cells h)))
+
+  pub cell-ends : (cells i : ℕ) {r : Finding} → i ≡ firstFrom (λ j. not (eqb (g j) 0)) 0 cells → cells ≤ i → r ≡ legal → r ≡ numbered g cells
+  unfolding numbered
+  cell-ends cells i at h a = rw (← at) (rw (le-ltb i cells h) a)
+
+  pub lab-stops : (l n : ℕ) → l ≡ firstFrom (λ j. not (eqb (g j) 0)) 0 1024 → l < 1024 → n ≡ g l → finding n NONE l ≡ numberedLab g
+  unfolding numberedLab
+  lab-stops l n at h e = rw (← at) (rw (lt-ltb l 1024 h, ← e))
+
+  pub lab-ends : (l : ℕ) {r : Finding} → l ≡ firstFrom (λ j. not (eqb (g j) 0)) 0 1024 → 1024 ≤ l → r ≡ legal → r ≡ numberedLab g
+  unfolding numberedLab
+  lab-ends l at h a = rw (← at) (rw (le-ltb l 1024 h) a)
+
+-- ---- 30 to 44, from the tables
+module _ (reads readers drivers e : List ℕ) (nets cells i : ℕ) (at : i ≡ firstFrom (brokenAt reads readers drivers nets e) 0 cells) where
+  pub cell-broken : (c : Record) (n : ℕ) {r : Finding} → i < cells → c ≡ recordAt nets e i → n ≡ numberBy reads readers drivers i c
+      → r ≡ cond (ltb i cells) (finding n i NONE) legal → r ≡ numbered (numberAt reads readers drivers nets e) cells
+  unfolding brokenAt
+  cell-broken c n h k q a = cell-stops (numberAt reads readers drivers nets e) cells i n at h (q ∙ ap (numberBy reads readers drivers i) k) a
+
+  pub cells-kept : {r : Finding} → cells ≤ i → r ≡ legal → r ≡ numbered (numberAt reads readers drivers nets e) cells
+  unfolding brokenAt
+  cells-kept h a = cell-ends (numberAt reads readers drivers nets e) cells i at h a
+
+pub ruleset cell-steps = (cell-broken, cells-kept)
+
+-- ---- 60 to 65, from the lists
+module _ (t : Table) (nets : ℕ) (e first next : List ℕ) (l : ℕ) (at : l ≡ firstFrom (brokenLab t nets e first next) 0 1024) where
+  pub lab-broken : (r : LabResult) → l < 1024 → r ≡ resultAt t nets e first next l → finding (r .number) NONE l ≡ numberedLab (λ k. resultAt t nets e first next k .number)
+  unfolding brokenLab
+  lab-broken r h k = lab-stops (λ k. resultAt t nets e first next k .number) l (r .number) at h (ap (λ (x : LabResult). x .number) k)
+
+  pub labs-kept : {r : Finding} → 1024 ≤ l → r ≡ legal → r ≡ numberedLab (λ k. resultAt t nets e first next k .number)
+  unfolding brokenLab
+  labs-kept h a = lab-ends (λ k. resultAt t nets e first next k .number) l at h a
+
+pub ruleset lab-steps = (lab-broken, labs-kept)
+
+-- ---- 50 and 51
+module _ (drivers e a : List ℕ) (nets cells i : ℕ) (at : i ≡ firstFrom (placeTaken e a) 0 cells) where
+  pub place-shared : {r : Finding} → i < cells → r ≡ cond (ltb i cells) (finding 50 i NONE) legal → r ≡ placedBy drivers nets cells e a
+  unfolding placedBy
+  place-shared h q = rw (← at) (rw (lt-ltb i cells h) (q ∙ rw (lt-ltb i cells h)))
+
+  pub place-detached : (d : ℕ) {r : Finding} → cells ≤ i → d ≡ firstFrom (detachedAt drivers a nets e) 0 cells → r ≡ cond (ltb d cells) (finding 51 d NONE) legal → r ≡ placedBy drivers nets cells e a
+  unfolding placedBy
+  place-detached d h s q = rw (← at) (rw (le-ltb i cells h, ← s) q)
+
+pub ruleset place-steps = (place-shared, place-detached)
+
+-- ---- 30 to 51, of an exercise that passes 10 to 16
+module _ (e a : List ℕ) (passed : firstBroken (exerciseGroup e) .number ≡ 0) (nets cells : ℕ) (n : nets ≡ netCount e) (c : cells ≡ cellCount e)
+    (rs rd ds : List ℕ) (r0 : rs ≡ readsBelow nets e (replicate 1024 0) cells) (r1 : rd ≡ readersBelow nets e (replicate 1024 NONE) cells)
+    (r2 : ds ≡ driversBelow nets e (replicate 1024 NONE) cells) (f : Finding) (found : f ≡ numbered (numberAt rs rd ds nets e) cells) where
+  cell-group : f ≡ firstBroken (cellGroup e)
+  cell-group = found ∙ rw (r0, r1, r2, n, c) (cells-are e a (sound-of e passed))
+
+  pub cells-stop : (f .number ≡ 0 → ⊥) → f ≡ firstBroken (cellGroup e ++ placeGroup e a)
+  cells-stop h = rw cells-places-find (then-stays (firstBroken (cellGroup e)) (firstBroken (placeGroup e a)) (λ z. h (ap (λ (x : Finding). x .number) cell-group ∙ z)) cell-group)
+
+  pub cells-go : {r : Finding} → f .number ≡ 0 → r ≡ placedBy ds nets cells e a → r ≡ firstBroken (cellGroup e ++ placeGroup e a)
+  cells-go h q =
+      rw cells-places-find (then-goes (firstBroken (cellGroup e)) (firstBroken (placeGroup e a)) (ap (λ (x : Finding). x .number) (sym cell-group) ∙ h)
+      (q ∙ rw (r2, n, c) (places-are e a (sound-of e passed))))
+
+pub ruleset cells-steps = (cells-stop, cells-go)
+
+-- ---- 1 to 51
+module _ (e a : List ℕ) (room : ℕ) where
+  pub to-room : {r : Finding} → (room ≡ 8192 → ⊥) → r ≡ finding 1 NONE NONE → r ≡ firstBroken (checksTo51 e a room)
+  to-room h q = rw to-51-finds (rw (ne-eqb room 8192 h) q)
+
+  module _ (f : Finding) (whole : room ≡ 8192) (x : f ≡ firstBroken (exerciseGroup e)) where
+    pub to-exercise : (f .number ≡ 0 → ⊥) → f ≡ firstBroken (checksTo51 e a room)
+    to-exercise h = rw to-51-finds (rw (eq-eqb room 8192 whole) (then-stays (firstBroken (exerciseGroup e)) _ (λ z. h (ap (λ (k : Finding). k .number) x ∙ z)) x))
+
+    pub passed-exercise : f .number ≡ 0 → firstBroken (exerciseGroup e) .number ≡ 0
+    passed-exercise h = ap (λ (k : Finding). k .number) (sym x) ∙ h
+
+    module _ (g : Finding) (none : f .number ≡ 0) (y : g ≡ firstBroken (answerGroup e a)) where
+      pub to-answer : (g .number ≡ 0 → ⊥) → g ≡ firstBroken (checksTo51 e a room)
+      to-answer h =
+          rw to-51-finds (rw (eq-eqb room 8192 whole) (then-goes (firstBroken (exerciseGroup e)) _ (passed-exercise none)
+          (then-stays (firstBroken (answerGroup e a)) _ (λ z. h (ap (λ (k : Finding). k .number) y ∙ z)) y)))
+
+      pub to-cells : {r : Finding} → g .number ≡ 0 → r ≡ firstBroken (cellGroup e ++ placeGroup e a) → r ≡ firstBroken (checksTo51 e a room)
+      to-cells h q =
+          rw to-51-finds (rw (eq-eqb room 8192 whole) (then-goes (firstBroken (exerciseGroup e)) _ (passed-exercise none)
+          (then-goes (firstBroken (answerGroup e a)) _ (ap (λ (k : Finding). k .number) (sym y) ∙ h) q)))
+
+pub ruleset to-51-steps = (to-room, to-exercise, to-answer, to-cells)
+
+-- ---- the lowest cell of a LAB: none of the cells below i stands there
+pub record Lowest (a : List ℕ) (n l i : ℕ) : Type 0 where
+  pub within : i ≤ n
+  pub same : lowestIn a n l ≡ firstOr NONE (filterb (λ j. eqb (labAt a j) l) (from i (n - i)))
+
+pub lowest-starts : (a : List ℕ) (n l : ℕ) → Lowest a n l 0
+unfolding lowestIn members
+lowest-starts a n l =
+    let all : n - 0 ≡ n = omega arith in
+    record { within = omega arith; same = rw all }
+
+module _ (a : List ℕ) (n l i : ℕ) (s : Lowest a n l i) where
+  pub lowest-goes : (m : ℕ) → i < n → m ≡ labAt a i → (m ≡ l → ⊥) → Lowest a n l (i + 1)
+  lowest-goes m h e d =
+      let more : n - i ≡ suc (n - (i + 1)) = omega arith in
+      record { within = omega arith; same = s .same ∙ rw (more, ne-eqb (labAt a i) l (λ z. d (e ∙ z)), add-one) }
+
+  pub lowest-stops : (m : ℕ) → i < n → m ≡ labAt a i → m ≡ l → i ≡ lowestIn a n l
+  lowest-stops m h e k =
+      let more : n - i ≡ suc (n - (i + 1)) = omega arith in
+      sym (s .same ∙ rw (more, eq-eqb (labAt a i) l (sym e ∙ k)))
+
+  pub lowest-ends : n ≤ i → NONE ≡ lowestIn a n l
+  lowest-ends h =
+      let none : n - i ≡ 0 = omega arith in
+      sym (s .same ∙ rw none)
+
+pub ruleset lowest-steps = (lowest-starts, lowest-goes, lowest-stops, lowest-ends)
+
+-- ---- the culprit
+pub from-start : (b : Bool) (x y : ℕ) → x ≡ y → _≡_ {A = Part} (record { «of_answer» = b; start = 0; size = x }) (record { «of_answer» = b; start = 0; size = y })
+from-start b x y h = rw h
+
+pub place-lowest : (a : List ℕ) (n c m l : ℕ) {r : Part} → r ≡ ofAnswer (placeStart m) 4 → m ≡ lowestIn a c l → c ≡ n → r ≡ ofAnswer (placeStart (lowestIn a n l)) 4
+place-lowest a n c m l h k q = h ∙ rw (k, q)
+
+pub ruleset culprit-steps = (from-start, place-lowest, passes, stops, le-leb, lt-leb)
+
+-- ---- 60 to 65, of sheets that pass 1 to 51
+module _ (t : Table) (e a : List ℕ) (room : ℕ) (passed : firstBroken (checksTo51 e a room) .number ≡ 0) where
+  past-room : (room ≡ 8192) × (then (firstBroken (exerciseGroup e)) (then (firstBroken (answerGroup e a)) (firstBroken (cellGroup e ++ placeGroup e a))) .number ≡ 0)
+  past-room =
+      by-test (eqb room 8192) (λ q. (eqb-true room 8192 q, rw (to-51-finds, q) at passed))
+      (λ q. let z : _≡_ {A = ℕ} 1 0 = rw (to-51-finds, q) at passed in absurd (omega arith))
+
+  past-exercise : firstBroken (exerciseGroup e) .number ≡ 0
+  past-exercise = then-first (firstBroken (exerciseGroup e)) _ (past-room .1)
+
+  sound : Sound e
+  sound = sound-of e past-exercise
+
+  cell-zero : (i : ℕ) → i < cellCount e → cellNumber e i ≡ 0
+  cell-zero =
+      let past = then-second (firstBroken (answerGroup e a)) _ (then-second (firstBroken (exerciseGroup e)) _ (past-room .1)) in
+      let cells = then-first (firstBroken (cellGroup e)) (firstBroken (placeGroup e a)) (rw cells-places-find at past) in
+      numbered-none (cellNumber e) (cellCount e) (rw cells-finds at cells)
+
+  fits : (l : ℕ) → AllFit (labCells e a l)
+  unfolding cellNumber
+  fits = lab-fit e a (sound .nets) cell-zero
+
+  module _ (nets cells : ℕ) (first next : List ℕ) (n : nets ≡ netCount e) (c : cells ≡ cellCount e)
+      (x : first ≡ linked a cells .first) (y : next ≡ linked a cells .next)
+      (f : Finding) (found : f ≡ numberedLab (λ l. resultAt t nets e first next l .number)) where
+    pub lab-group : f ≡ firstBroken (labGroup t e a)
+    lab-group = found ∙ rw (x, y, n, c) (labs-are t e a sound fits)
+
+    module _ (before after : List ℕ) where
+      pub routes-kept : (f .number ≡ 0 → ⊥) → after ≡ before → after ≡ cond (eqb (f .number) 0) (concatMap (λ l. routeOf t (labCells e a l)) (below 1024)) before
+      routes-kept h q = rw (ne-eqb (f .number) 0 h) q
+
+      pub routes-written : f .number ≡ 0 → room ≡ length before → after ≡ rowFrom (routeByte t nets e first next) 0 (length before)
+          → after ≡ cond (eqb (f .number) 0) (concatMap (λ l. routeOf t (labCells e a l)) (below 1024)) before
+      routes-written h k q =
+          let held : firstBroken (labGroup t e a) .number ≡ 0 = ap (λ (z : Finding). z .number) (sym lab-group) ∙ h in
+          let size : length before ≡ 8192 = sym k ∙ past-room .0 in
+          rw (eq-eqb (f .number) 0 h) (q ∙ rw (size, x, y, n, c) (routes-are t e a sound fits held))
+
+-- ---- the whole verdict
+module _ (t : Table) (e a before : List ℕ) (f : Finding) (x : f ≡ firstBroken (checksTo51 e a (length before))) where
+  whole : firstBroken (checks t e a (length before)) ≡ then f (firstBroken (labGroup t e a))
+  unfolding checks
+  whole = first-append (checksTo51 e a (length before)) (labGroup t e a) (known-numbered 51 (checksTo51 e a (length before)) (to-51-known e a (length before))) ∙ rw (← x)
+
+  module _ (v : Verdict) where
+    pub judge-refused : (f .number ≡ 0 → ⊥) → v ≡ verdictOf e a f → (v ≡ judged t e a (length before)) × (before ≡ routed t e a before)
+    unfolding judged routed verdictOf
+    judge-refused h q =
+        let same : firstBroken (checks t e a (length before)) ≡ f = whole ∙ rw (ne-eqb (f .number) 0 h) in
+        (rw same q, rw same (rw (ne-eqb (f .number) 0 h)))
+
+    pub judge-done : (g : Finding) (after : List ℕ) → f .number ≡ 0 → g ≡ firstBroken (labGroup t e a)
+        → after ≡ cond (eqb (g .number) 0) (concatMap (λ l. routeOf t (labCells e a l)) (below 1024)) before → v ≡ verdictOf e a g
+        → (v ≡ judged t e a (length before)) × (after ≡ routed t e a before)
+    unfolding judged routed verdictOf
+    judge-done g after h y w q =
+        let same : firstBroken (checks t e a (length before)) ≡ g = whole ∙ rw (eq-eqb (f .number) 0 h) (sym y) in
+        (rw same q, rw same w)
+
+-- ---- the verdict handed out: the culprit's bytes, the route and the four numbers
+pub handed-out : (t : Table) (e a before after : List ℕ) (v : Verdict) (part : List ℕ) (number cell lab : ℕ) → t ≡ houseBoard
+    → v ≡ judged t e a (length before) → after ≡ routed t e a before → part ≡ bytesOf e a (v .culprit) → number ≡ v .number → cell ≡ v .cell → lab ≡ v .lab
+    → (part ≡ bytesOf e a (judged houseBoard e a (length before) .culprit))
+    × ((after ≡ routed houseBoard e a before) × (number ∷ cell ∷ lab ∷ v .apprentice ∷ [] ≡ numbersOf (judged houseBoard e a (length before))))
+handed-out t e a before after v part number cell lab h x y p n c l =
+    (p ∙ rw (x, h), (y ∙ rw h, rw (n, c, l, x, h)))

@@ -1,0 +1,97 @@
+-- The three demands, as statements. A reader needs this file, Judge, and the definitions that Judge names: nothing of any proof.
+-- Assumes nothing.
+use Prim.Native.Nat.{ℕ, _+_, _*_, _<_}
+use mathlib.Core.Path.{_≡_}
+use mathlib.Core.Logic.{_↔_, _⊎_}
+use mathlib.Core.Bool.{Bool, true, false}
+use mathlib.Core.List.{List, [], _∷_, _++_}
+use lib.ListN.{length, getD, take}
+use lib.Dec.{eqb}
+use Rattle.sheet.specs.Lists.{filterb, elemb}
+use Rattle.sheet.specs.Exercise.{cellCount}
+use Rattle.route.specs.declared.Need.{Need}
+use Rattle.route.specs.Table.{Table, needAt}
+use Rattle.route.specs.Way.{Way, Earlier}
+use Rattle.lab.specs.Rules.{needs, labRules}
+use Rattle.placing.specs.Places.{labAt}
+use Rattle.judge.specs.declared.Verdict.{Verdict}
+use Rattle.judge.specs.Judge.{Check, checks, checksTo51, ofLab, labCells, apprenticeOf, judged, routed, verdictOf}
+
+-- the numbers of document 01's table that a judgement can give
+abbrev pub numbers : List ℕ
+numbers =
+    0 ∷ 1 ∷ 10 ∷ 11 ∷ 12 ∷ 13 ∷ 14 ∷ 15 ∷ 16 ∷ 20 ∷ 21 ∷ 22 ∷ 23 ∷ 24 ∷ 25 ∷ 26
+    ∷ 30 ∷ 31 ∷ 32 ∷ 33 ∷ 34 ∷ 35 ∷ 40 ∷ 41 ∷ 42 ∷ 43 ∷ 44 ∷ 50 ∷ 51 ∷ 60 ∷ 61 ∷ 62 ∷ 63 ∷ 64 ∷ 65 ∷ []
+
+-- every check of a list holds
+unfoldable pub AllHold : List Check → Type 0
+AllHold [] = Unit {0}
+AllHold (k ∷ ks) = (k .broken ≡ false) × AllHold ks
+
+-- k is the first broken check of a list
+pub record FirstBroken (k : Check) (ks : List Check) : Type 0 where
+  pub before : List Check
+  pub after : List Check
+  pub stands : ks ≡ before ++ (k ∷ after)
+  pub hold : AllHold before
+  pub broken : k .broken ≡ true
+
+module _ (t : Table) where
+  -- DEMAND 1. "exactly one numbered verdict"; "a refusal .. leaves the route buffer untouched"; "the apprentice number comes from the answer
+  -- sheet only"
+  pub record Demand1 : Type 0 where
+    pub one-number : (e a : List ℕ) (r : ℕ) → elemb (judged t e a r .number) numbers ≡ true
+    pub untouched : (e a before : List ℕ) → (judged t e a (length before) .number ≡ 0 → ⊥) → routed t e a before ≡ before
+    pub apprentice-only : (e a : List ℕ) (r : ℕ) → judged t e a r .apprentice ≡ apprenticeOf a (judged t e a r .number)
+
+  -- DEMAND 2. "The verdict is legal exactly if every rule in document 01 holds; otherwise it is the first broken one, in 01's order"
+  pub record Demand2 : Type 0 where
+    pub legal-exactly : (e a : List ℕ) (r : ℕ) → (judged t e a r .number ≡ 0) ↔ AllHold (checks t e a r)
+    pub else-the-first : (e a : List ℕ) (r : ℕ) (k : Check) → FirstBroken k (checks t e a r) → judged t e a r ≡ verdictOf e a (k .finding)
+    pub one-or-other : (e a : List ℕ) (r : ℕ) → AllHold (checks t e a r) ⊎ ((k : Check) × FirstBroken k (checks t e a r))
+
+  -- ---- demand 3, of an exercise and an answer
+  module _ (e a : List ℕ) where
+    -- the needs of LAB l, in need order
+    unfoldable pub labNeeds : ℕ → List Need
+    labNeeds l = needs (labCells e a l)
+
+    -- "A LAB keeps one of 60 to 64 when that rule's line isn't true of its cells"
+    unfoldable pub Keeps60to64 : ℕ → Type 0
+    Keeps60to64 l = AllHold (ofLab l (labRules (labCells e a l)))
+
+    -- "and keeps 65 when it has a way"
+    unfoldable pub Keeps65 : ℕ → Type 0
+    Keeps65 l = (w : List ℕ) × Way t (labNeeds l) w
+
+    -- "an occupied LAB is one where the answer sheet puts at least one cell"
+    unfoldable pub Occupied : ℕ → Type 0
+    Occupied l = (i : ℕ) × (i < cellCount e) × (labAt a i ≡ l)
+
+    -- "refusal 65 names a LAB exactly when four things are true"
+    pub record FourThings (r l : ℕ) : Type 0 where
+      pub to-51-hold : AllHold (checksTo51 e a r)
+      pub lower-keep : (k : ℕ) → k < l → Keeps60to64 k × Keeps65 k
+      pub keeps-to-64 : Keeps60to64 l
+      pub has-no-way : (w : List ℕ) → Way t (labNeeds l) w → ⊥
+
+    -- "8 bytes per LAB at 8 × LAB number, for two clk, two ena, two aclr, sclr, sload in need order": the byte of need i of LAB l
+    unfoldable pub byteOf : ℕ → ℕ → ℕ
+    byteOf l i =
+        8 * l + getD (0 ∷ 2 ∷ 4 ∷ 6 ∷ 7 ∷ []) (needAt (labNeeds l) i .role) 0
+        + length (filterb (λ n. eqb (n .role) (needAt (labNeeds l) i .role)) (take i (labNeeds l)))
+
+    -- the route bytes of LAB l hold w, a way than which every other comes later
+    pub record HoldsFirstWay (route : List ℕ) (l : ℕ) : Type 0 where
+      pub w : List ℕ
+      pub is-way : Way t (labNeeds l) w
+      pub others-later : (v : List ℕ) → Way t (labNeeds l) v → (v ≡ w) ⊎ Earlier w v
+      pub held : (i : ℕ) → i < length (labNeeds l) → getD route (byteOf l i) 0 ≡ getD w i 0
+
+  -- DEMAND 3, both halves
+  pub record Demand3 : Type 0 where
+    pub refusal-65 : (e a : List ℕ) (r l : ℕ) → ((judged t e a r .number ≡ 65) × (judged t e a r .lab ≡ l)) ↔ FourThings e a r l
+    pub legal-route : (e a before : List ℕ) → judged t e a (length before) .number ≡ 0
+        → (l : ℕ) → Occupied e a l → HoldsFirstWay e a (routed t e a before) l
+    pub no-need-255 : (e a before : List ℕ) → judged t e a (length before) .number ≡ 0
+        → (b : ℕ) → b < 8192 → ((l i : ℕ) → i < length (labNeeds e a l) → byteOf e a l i ≡ b → ⊥) → getD (routed t e a before) b 0 ≡ 255

@@ -1,0 +1,173 @@
+-- Document 01, "Verdict numbers, in the order of checking": the checks as a list, the verdict as its first broken check, and the route buffer.
+-- `e` is the exercise, `a` the answer, `r` the route buffer's length, `t` the entry table. Assumes nothing.
+use Prim.Native.Nat.{ℕ, _+_, _*_, min}
+use mathlib.Core.Bool.{Bool, true, false, cond, not, _&&_, _||_}
+use mathlib.Core.List.{List, [], _∷_, _++_, map}
+use lib.ListN.{length, getD, take, drop}
+use lib.Dec.{eqb, ltb, leb}
+use Rattle.sheet.specs.Lists.{concatMap, filterb, anyb, below}
+use Rattle.sheet.specs.Checks as sheet
+use Rattle.sheet.specs.Bytes.{partAt}
+use Rattle.sheet.specs.Exercise.{cellCount, exerciseChecks, recordStart}
+use Rattle.sheet.specs.Answer.{apprentice, placeCount, answerChecks, wrongAnswerLength, placeStart}
+use Rattle.sheet.specs.declared.Record.{Record}
+use Rattle.sheet.specs.declared.Record.the-variants.{Combinational, Register, Malformed}
+use Rattle.route.specs.Table.{Table}
+use Rattle.lab.specs.Rules.{labRules, labChecks, routeOf}
+use Rattle.netlist.specs.Cells.{cell, cellNumbers, malformed, doubleDriver, feeds, cellChecks}
+use Rattle.placing.specs.Places.{labAt, outOfRangeAt, placeTaken, follows}
+use Rattle.labs.specs.Members.{members}
+use Rattle.judge.specs.declared.Finding.{Finding}
+use Rattle.judge.specs.declared.Part.{Part}
+use Rattle.judge.specs.declared.Verdict.{Verdict}
+
+-- "65,535 where there is none"
+abbrev pub NONE : ℕ
+NONE = 65535
+
+-- what a verdict says first: the number, the cell, the LAB
+abbrev pub finding : ℕ → ℕ → ℕ → Finding
+finding n i l = record { number = n; cell = i; lab = l }
+
+abbrev pub legal : Finding
+legal = finding 0 NONE NONE
+
+-- one check: what it finds, and whether it is broken
+pub record Check : Type 0 where
+  pub finding : Finding
+  pub broken : Bool
+
+abbrev pub check : ℕ → Bool → Check
+check n b = record { finding = finding n NONE NONE; broken = b }
+
+abbrev pub cellCheck : ℕ → ℕ → Bool → Check
+cellCheck n i b = record { finding = finding n i NONE; broken = b }
+
+abbrev pub labCheck : ℕ → ℕ → Bool → Check
+labCheck n l b = record { finding = finding n NONE l; broken = b }
+
+-- checks of a whole sheet, of cell i, and of LAB l, from their numbers
+abbrev pub ofSheet : List sheet.Check → List Check
+ofSheet ks = map (λ k. check (k .number) (k .broken)) ks
+
+abbrev pub ofCell : ℕ → List sheet.Check → List Check
+ofCell i ks = map (λ k. cellCheck (k .number) i (k .broken)) ks
+
+abbrev pub ofLab : ℕ → List sheet.Check → List Check
+ofLab l ks = map (λ k. labCheck (k .number) l (k .broken)) ks
+
+-- one check for each cell, lowest cell first
+abbrev pub perCell : ℕ → (ℕ → Bool) → List ℕ → List Check
+perCell n broken all = map (λ i. cellCheck n i (broken i)) all
+
+-- 51: "a cell fed by a cout must stand in the same LAB, one LE number higher; .."
+abbrev pub standsApart : List ℕ → List ℕ → ℕ → Record → Bool
+standsApart e a i (Combinational c) = anyb (λ j. feeds (c .cin .0) (cell e j) && not (follows a j i)) (cellNumbers e)
+standsApart e a i (Register r) = false
+standsApart e a i Malformed = false
+
+unfoldable pub carryNotNext : List ℕ → List ℕ → ℕ → Bool
+carryNotNext e a i = standsApart e a i (cell e i)
+
+-- the cells that the answer puts into LAB l, by number
+unfoldable pub labCells : List ℕ → List ℕ → ℕ → List Record
+labCells e a l = map (cell e) (members a (cellCount e) l)
+
+-- ---- the order of checking, in the groups of document 01's table
+
+-- 1
+unfoldable pub roomChecks : ℕ → List Check
+roomChecks r = check 1 (not (eqb r 8192)) ∷ []
+
+-- 10 to 14; 15 over all cells; 16 over all cells
+unfoldable pub exerciseGroup : List ℕ → List Check
+exerciseGroup e = ofSheet (exerciseChecks e) ++ (perCell 15 (malformed e) (cellNumbers e) ++ perCell 16 (doubleDriver e) (cellNumbers e))
+
+-- 20 to 23; 24; 25; 26 over all cells
+unfoldable pub answerGroup : List ℕ → List ℕ → List Check
+answerGroup e a =
+    ofSheet (answerChecks a)
+    ++ (check 24 (not (eqb (placeCount a) (cellCount e)))
+    ∷ check 25 (wrongAnswerLength a)
+    ∷ perCell 26 (outOfRangeAt a) (cellNumbers e))
+
+-- 30 to 44: lowest cell, then lowest number
+unfoldable pub cellGroup : List ℕ → List Check
+cellGroup e = concatMap (λ i. ofCell i (cellChecks e i)) (cellNumbers e)
+
+-- 50 over all cells, then 51 over all cells
+unfoldable pub placeGroup : List ℕ → List ℕ → List Check
+placeGroup e a = perCell 50 (placeTaken e a) (cellNumbers e) ++ perCell 51 (carryNotNext e a) (cellNumbers e)
+
+-- 60 to 65: lowest LAB number, then lowest rule
+unfoldable pub labGroup : Table → List ℕ → List ℕ → List Check
+labGroup t e a = concatMap (λ l. ofLab l (labChecks t (labCells e a l))) (below 1024)
+
+-- all the checks of numbers 1 to 51
+unfoldable pub checksTo51 : List ℕ → List ℕ → ℕ → List Check
+checksTo51 e a r = roomChecks r ++ (exerciseGroup e ++ (answerGroup e a ++ (cellGroup e ++ placeGroup e a)))
+
+-- ALL CHECKS, IN THE ORDER OF CHECKING
+unfoldable pub checks : Table → List ℕ → List ℕ → ℕ → List Check
+checks t e a r = checksTo51 e a r ++ labGroup t e a
+
+-- what the first broken check finds, or that none is broken
+abbrev pub firstBroken : List Check → Finding
+firstBroken [] = legal
+firstBroken (k ∷ ks) = let later = firstBroken ks in cond (k .broken) (k .finding) later
+
+-- ---- the verdict
+
+-- "the apprentice: 0 for numbers 1 to 23, otherwise the number on the answer sheet"
+unfoldable pub apprenticeOf : List ℕ → ℕ → ℕ
+apprenticeOf a n = cond (leb 1 n && leb n 23) 0 (apprentice a)
+
+abbrev pub ofExercise : ℕ → ℕ → Part
+ofExercise start size = record { «of_answer» = false; start = start; size = size }
+
+abbrev pub ofAnswer : ℕ → ℕ → Part
+ofAnswer start size = record { «of_answer» = true; start = start; size = size }
+
+-- the lowest cell of LAB l
+abbrev pub firstOr : ℕ → List ℕ → ℕ
+firstOr d [] = d
+firstOr d (x ∷ xs) = x
+
+unfoldable pub lowestIn : List ℕ → ℕ → ℕ → ℕ
+lowestIn a n l = firstOr NONE (members a n l)
+
+-- "the culprit, a part of whichever of the two lent sheets is at fault": for 0 and 1 the empty part at the answer's end; for 10 to 14 the
+-- first 9 bytes of the exercise; for 15, 16 and 30 to 44 that cell's record; for 20 to 25 the first 11 bytes of the answer; for 26, 50 and 51
+-- that cell's place; for 60 to 65 the place of the lowest cell in that LAB
+unfoldable pub culpritOf : List ℕ → List ℕ → Finding → Part
+culpritOf e a f =
+    cond (leb (f .number) 1) (ofAnswer (length a) 0)
+    (cond (leb (f .number) 14) (ofExercise 0 (min 9 (length e)))
+    (cond (leb (f .number) 16) (ofExercise (recordStart (f .cell)) 24)
+    (cond (leb (f .number) 25) (ofAnswer 0 (min 11 (length a)))
+    (cond (leb (f .number) 26) (ofAnswer (placeStart (f .cell)) 4)
+    (cond (leb (f .number) 44) (ofExercise (recordStart (f .cell)) 24)
+    (cond (leb (f .number) 51) (ofAnswer (placeStart (f .cell)) 4)
+    (ofAnswer (placeStart (lowestIn a (cellCount e) (f .lab))) 4)))))))
+
+unfoldable pub verdictOf : List ℕ → List ℕ → Finding → Verdict
+verdictOf e a f = record {
+  number = f .number;
+  cell = f .cell;
+  lab = f .lab;
+  apprentice = apprenticeOf a (f .number);
+  culprit = culpritOf e a f;
+}
+
+-- THE VERDICT: the first broken check of the list
+unfoldable pub judged : Table → List ℕ → List ℕ → ℕ → Verdict
+judged t e a r = verdictOf e a (firstBroken (checks t e a r))
+
+-- the bytes of the culprit
+unfoldable pub bytesOf : List ℕ → List ℕ → Part → List ℕ
+bytesOf e a p = cond (p .«of_answer») (partAt a (p .start) (p .size)) (partAt e (p .start) (p .size))
+
+-- THE ROUTE BUFFER AT EXIT: on a refusal as it was, else eight bytes for each LAB, by number
+unfoldable pub routed : Table → List ℕ → List ℕ → List ℕ → List ℕ
+routed t e a before =
+    cond (eqb (judged t e a (length before) .number) 0) (concatMap (λ l. routeOf t (labCells e a l)) (below 1024)) before

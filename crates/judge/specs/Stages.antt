@@ -1,0 +1,38 @@
+-- What the judge's stages answer from the tables that they are given. Assumes nothing.
+use Prim.Native.Nat.{ℕ}
+use mathlib.Core.Bool.{Bool, cond, not}
+use mathlib.Core.List.{List, [], _∷_}
+use lib.Dec.{eqb, ltb}
+use Rattle.sheet.specs.Lists.{firstFrom}
+use Rattle.placing.specs.Places.{placeTaken, detachedAt}
+use Rattle.judge.specs.declared.Finding.{Finding}
+use Rattle.judge.specs.declared.Verdict.{Verdict}
+use Rattle.judge.specs.Judge.{NONE, finding, legal}
+
+-- the first cell below n that g gives a number, with that number
+unfoldable pub numbered : (ℕ → ℕ) → ℕ → Finding
+numbered g n =
+    cond (ltb (firstFrom (λ i. not (eqb (g i) 0)) 0 n) n)
+    (finding (g (firstFrom (λ i. not (eqb (g i) 0)) 0 n)) (firstFrom (λ i. not (eqb (g i) 0)) 0 n) NONE)
+    legal
+
+-- the first LAB that g gives a number, with that number
+unfoldable pub numberedLab : (ℕ → ℕ) → Finding
+numberedLab g =
+    cond (ltb (firstFrom (λ l. not (eqb (g l) 0)) 0 1024) 1024)
+    (finding (g (firstFrom (λ l. not (eqb (g l) 0)) 0 1024)) NONE (firstFrom (λ l. not (eqb (g l) 0)) 0 1024))
+    legal
+
+-- what a run over n cells finds that stops at i
+abbrev pub atCell : ℕ → ℕ → ℕ → Finding
+atCell number i n = cond (ltb i n) (finding number i NONE) legal
+
+-- 50, then 51 from the table of drivers
+unfoldable pub placedBy : List ℕ → ℕ → ℕ → List ℕ → List ℕ → Finding
+placedBy drivers nets n e a =
+    cond (ltb (firstFrom (placeTaken e a) 0 n) n) (finding 50 (firstFrom (placeTaken e a) 0 n) NONE)
+    (atCell 51 (firstFrom (detachedAt drivers a nets e) 0 n) n)
+
+-- the four numbers of a verdict
+abbrev pub numbersOf : Verdict → List ℕ
+numbersOf v = v .number ∷ v .cell ∷ v .lab ∷ v .apprentice ∷ []

@@ -1,0 +1,396 @@
+use sheet::CellNumber;
+ghost use mathlib.Core.Path.{_≡_};
+ghost use mathlib.Core.Bool.{cond};
+ghost use mathlib.Core.List.{[], _∷_, _++_};
+ghost use Prim.Native.Nat.{_+_, _*_, _<_, _≤_, min};
+ghost use lib.ListN.{length};
+ghost use lib.Dec.{eqb, ltb};
+ghost use Rattle.sheet.specs.Lists.{concatMap, below};
+ghost use Rattle.sheet.specs.Exercise.{recordStart};
+ghost use Rattle.sheet.specs.Answer.{placeStart};
+ghost use Rattle.route.specs.Table.{houseBoard};
+ghost use Rattle.lab.specs.Rules.{routeOf};
+ghost use Rattle.judge.specs.Judge.{NONE, finding, legal, ofExercise, ofAnswer, exerciseGroup, answerGroup, cellGroup, placeGroup, labGroup, checksTo51, labCells, firstBroken, apprenticeOf, lowestIn, culpritOf, verdictOf, judged, bytesOf, routed};
+ghost use Rattle.judge.specs.Stages.{numbered, numberedLab, placedBy, numbersOf};
+ghost use Rattle.netlist.specs.Tables.{numberAt};
+ghost use Rattle.labs.specs.Results.{resultAt};
+
+// No cell, or no LAB.
+pub const NONE: u16 = 65535;
+
+// The route buffer's length: eight bytes for each of 1,024 LABs.
+pub const ROUTE_SIZE: usize = 8192;
+
+// What a stage finds: a number of document 01, or 0, with the cell and the LAB, or 65,535.
+pub struct Finding {
+    pub number: u8,
+    pub cell: u16,
+    pub lab: u16,
+}
+
+// A part of one of the two sheets.
+pub struct Part {
+    pub of_answer: bool,
+    pub start: usize,
+    pub size: usize,
+}
+
+// The verdict: the culprit is a part of the exercise or of the answer.
+pub struct Verdict {
+    pub number: u8,
+    pub cell: u16,
+    pub lab: u16,
+    pub apprentice: u32,
+    pub culprit: Part,
+}
+
+// A finding with no cell and no LAB.
+fn plain(number: u8) -> Finding
+    ensures { λ r. ⌜ r ≡ finding number NONE NONE ⌝ }
+{
+    Finding {
+        number,
+        cell: NONE,
+        lab: NONE,
+    }
+}
+
+// The finding of a run over the cells that stopped at i: nothing where it came to the end.
+fn at_cell(number: u8, i: u16, cells: u16) -> Finding
+    ensures { λ r. ⌜ r ≡ cond (ltb i cells) (finding number i NONE) legal ⌝ }
+{
+    if i < cells {
+        return Finding {
+            number,
+            cell: i,
+            lab: NONE,
+        };
+    }
+    plain(0)
+}
+
+// 10 to 16.
+fn exercise_finding(exercise: &[u8]) -> Finding
+    ensures { λ r. ⌜ r ≡ firstBroken (exerciseGroup (now (exercise .entry))) ⌝ }
+{
+    let number = sheet::exercise_number(exercise);
+    if number != 0 {
+        return plain(number);
+    }
+    let nets = sheet::net_count(exercise);
+    let cells = sheet::cell_count(exercise);
+    let malformed = netlist::first_malformed(exercise, nets, cells);
+    if malformed < cells {
+        return at_cell(15, malformed, cells);
+    }
+    at_cell(
+        16,
+        netlist::first_double_driver(exercise, nets, cells),
+        cells,
+    )
+}
+
+// 20 to 26.
+fn answer_finding(exercise: &[u8], answer: &[u8]) -> Finding
+    ensures { λ r. ⌜ r ≡ firstBroken (answerGroup (now (exercise .entry)) (now (answer .entry))) ⌝ }
+{
+    let number = sheet::answer_number(answer);
+    if number != 0 {
+        return plain(number);
+    }
+    let cells = sheet::cell_count(exercise);
+    if sheet::place_count(answer) != cells {
+        return plain(24);
+    }
+    if sheet::wrong_answer_length(answer) {
+        return plain(25);
+    }
+    at_cell(26, placing::first_out_of_range(answer, cells), cells)
+}
+
+// 30 to 44, from the tables by net.
+fn cell_finding(
+    exercise: &[u8],
+    nets: u16,
+    cells: u16,
+    reads: &[u8],
+    readers: &[u16],
+    drivers: &[u16],
+) -> Finding
+    ensures { λ r. ⌜ r ≡ numbered (numberAt (now (reads .entry)) (now (readers .entry)) (now (drivers .entry)) nets (now (exercise .entry))) cells ⌝ }
+{
+    let i = netlist::first_broken_cell(exercise, nets, cells, reads, readers, drivers);
+    if i < cells {
+        let cell = sheet::record_at(exercise, CellNumber(i), nets);
+        return at_cell(
+            netlist::cell_number(cell, i, reads, readers, drivers),
+            i,
+            cells,
+        );
+    }
+    plain(0)
+}
+
+// 50 and 51, the latter from the table of drivers.
+fn place_finding(exercise: &[u8], answer: &[u8], nets: u16, cells: u16, drivers: &[u16]) -> Finding
+    ensures { λ r. ⌜ r ≡ placedBy (now (drivers .entry)) nets cells (now (exercise .entry)) (now (answer .entry)) ⌝ }
+{
+    let shared = placing::first_shared(exercise, answer, cells);
+    if shared < cells {
+        return at_cell(50, shared, cells);
+    }
+    at_cell(
+        51,
+        placing::first_detached(exercise, answer, nets, cells, drivers),
+        cells,
+    )
+}
+
+// 30 to 51, of an exercise that passes 10 to 16.
+fn cells_finding(exercise: &[u8], answer: &[u8]) -> Finding
+    requires { ⌜ firstBroken (exerciseGroup (now exercise)) .number ≡ 0 ⌝ }
+    ensures { λ r. ⌜ r ≡ firstBroken (cellGroup (now (exercise .entry)) ++ placeGroup (now (exercise .entry)) (now (answer .entry))) ⌝ }
+{
+    let nets = sheet::net_count(exercise);
+    let cells = sheet::cell_count(exercise);
+    let mut reads = [0u8; 1024];
+    let mut readers = [65535u16; 1024];
+    let mut drivers = [65535u16; 1024];
+    netlist::fill_tables(
+        exercise,
+        nets,
+        cells,
+        &mut reads,
+        &mut readers,
+        &mut drivers,
+    );
+    let f = cell_finding(exercise, nets, cells, &reads, &readers, &drivers);
+    if f.number != 0 {
+        return f;
+    }
+    place_finding(exercise, answer, nets, cells, &drivers)
+}
+
+// 1 to 51.
+fn finding_to_51(exercise: &[u8], answer: &[u8], room: usize) -> Finding
+    ensures { λ r. ⌜ r ≡ firstBroken (checksTo51 (now (exercise .entry)) (now (answer .entry)) room) ⌝ }
+{
+    if room != ROUTE_SIZE {
+        return plain(1);
+    }
+    let f = exercise_finding(exercise);
+    if f.number != 0 {
+        return f;
+    }
+    let g = answer_finding(exercise, answer);
+    if g.number != 0 {
+        return g;
+    }
+    cells_finding(exercise, answer)
+}
+
+// 60 to 65, from the lists of cells by LAB.
+fn lab_finding(
+    table: [[bool; 5]; 6],
+    exercise: &[u8],
+    nets: u16,
+    first: &[u16],
+    next: &[u16],
+) -> Finding
+    ensures { λ r. ⌜ r ≡ numberedLab (λ l. resultAt table nets (now (exercise .entry)) (now (first .entry)) (now (next .entry)) l .number) ⌝ }
+{
+    let lab = labs::first_broken_lab(table, exercise, nets, first, next);
+    if lab < labs::LABS {
+        let result = labs::result_at(table, exercise, nets, first, next, lab as usize);
+        return Finding {
+            number: result.number,
+            cell: NONE,
+            lab,
+        };
+    }
+    plain(0)
+}
+
+// 60 to 65, of sheets that pass 1 to 51; where none is broken, the routes are written.
+fn judge_labs(table: [[bool; 5]; 6], exercise: &[u8], answer: &[u8], route: &mut [u8]) -> Finding
+    requires { ⌜ firstBroken (checksTo51 (now exercise) (now answer) (length (now route))) .number ≡ 0 ⌝ }
+    ensures found { λ r. ⌜ r ≡ firstBroken (labGroup table (now (exercise .entry)) (now (answer .entry))) ⌝ }
+    ensures written { λ r. ⌜ now (route .exit) ≡ cond (eqb (r .number) 0) (concatMap (λ l. routeOf table (labCells (now (exercise .entry)) (now (answer .entry)) l)) (below 1024)) (now (route .entry)) ⌝ }
+{
+    let nets = sheet::net_count(exercise);
+    let cells = sheet::cell_count(exercise);
+    let mut first = [65535u16; 1024];
+    let mut next = [65535u16; 512];
+    labs::link_cells(answer, cells, &mut first, &mut next);
+    let found = lab_finding(table, exercise, nets, &first, &next);
+    if found.number != 0 {
+        return found;
+    }
+    labs::write_routes(table, exercise, nets, &first, &next, route);
+    found
+}
+
+// The apprentice: 0 for 1 to 23, else the answer sheet's.
+fn apprentice_for(answer: &[u8], number: u8) -> u32
+    ensures { λ r. ⌜ r ≡ apprenticeOf (now (answer .entry)) number ⌝ }
+{
+    let some = 1 <= number;
+    let early = number <= 23;
+    if some & early {
+        return 0;
+    }
+    sheet::apprentice(answer)
+}
+
+// The lowest cell that the answer puts into a LAB.
+fn lowest_in(answer: &[u8], cells: u16, lab: u16) -> u16
+    ensures { λ r. ⌜ r ≡ lowestIn (now (answer .entry)) cells lab ⌝ }
+{
+    let mut i: u16 = 0;
+    while i < cells {
+        if placing::lab_of(answer, i) == lab {
+            return i;
+        }
+        i += 1;
+    }
+    NONE
+}
+
+fn smaller(a: usize, b: usize) -> usize
+    ensures { λ r. ⌜ r ≡ min a b ⌝ }
+{
+    if a < b { a } else { b }
+}
+
+fn record_of(cell: u16) -> Part
+    ensures { λ r. ⌜ r ≡ ofExercise (recordStart cell) 24 ⌝ }
+{
+    Part {
+        of_answer: false,
+        start: sheet::EXERCISE_HEADER + sheet::RECORD_SIZE * (cell as usize),
+        size: sheet::RECORD_SIZE,
+    }
+}
+
+fn place_of(cell: u16) -> Part
+    ensures { λ r. ⌜ r ≡ ofAnswer (placeStart cell) 4 ⌝ }
+{
+    Part {
+        of_answer: true,
+        start: sheet::ANSWER_HEADER + sheet::PLACE_SIZE * (cell as usize),
+        size: sheet::PLACE_SIZE,
+    }
+}
+
+// Where the culprit of a finding stands.
+fn culprit_of(exercise: &[u8], answer: &[u8], f: Finding) -> Part
+    ensures { λ r. ⌜ r ≡ culpritOf (now (exercise .entry)) (now (answer .entry)) f ⌝ }
+{
+    let number = f.number;
+    if number <= 1 {
+        return Part {
+            of_answer: true,
+            start: answer.len(),
+            size: 0,
+        };
+    }
+    if number <= 14 {
+        return Part {
+            of_answer: false,
+            start: 0,
+            size: smaller(sheet::EXERCISE_HEADER, exercise.len()),
+        };
+    }
+    if number <= 16 {
+        return record_of(f.cell);
+    }
+    if number <= 25 {
+        return Part {
+            of_answer: true,
+            start: 0,
+            size: smaller(sheet::ANSWER_HEADER, answer.len()),
+        };
+    }
+    if number <= 26 {
+        return place_of(f.cell);
+    }
+    if number <= 44 {
+        return record_of(f.cell);
+    }
+    if number <= 51 {
+        return place_of(f.cell);
+    }
+    place_of(lowest_in(answer, sheet::cell_count(exercise), f.lab))
+}
+
+// The verdict of a finding.
+fn verdict_of(exercise: &[u8], answer: &[u8], f: Finding) -> Verdict
+    ensures { λ r. ⌜ r ≡ verdictOf (now (exercise .entry)) (now (answer .entry)) f ⌝ }
+{
+    let apprentice = apprentice_for(answer, f.number);
+    let culprit = culprit_of(exercise, answer, f);
+    Verdict {
+        number: f.number,
+        cell: f.cell,
+        lab: f.lab,
+        apprentice,
+        culprit,
+    }
+}
+
+// The verdict on two sheets on a board with this entry table; the routes are written where it is legal, and nothing is touched otherwise.
+pub fn judge_on(table: [[bool; 5]; 6], exercise: &[u8], answer: &[u8], route: &mut [u8]) -> Verdict
+    ensures verdict { λ r. ⌜ r ≡ judged table (now (exercise .entry)) (now (answer .entry)) (length (now (route .entry))) ⌝ }
+    ensures routes { λ r. ⌜ now (route .exit) ≡ routed table (now (exercise .entry)) (now (answer .entry)) (now (route .entry)) ⌝ }
+{
+    let f = finding_to_51(exercise, answer, route.len());
+    if f.number != 0 {
+        return verdict_of(exercise, answer, f);
+    }
+    let g = judge_labs(table, exercise, answer, route);
+    verdict_of(exercise, answer, g)
+}
+
+// The part of the sheets that a Part names.
+fn part_of<'a>(exercise: &'a [u8], answer: &'a [u8], p: Part) -> &'a [u8]
+    ensures { λ r. ⌜ now r ≡ bytesOf (now (exercise .entry)) (now (answer .entry)) p ⌝ }
+{
+    let start = p.start;
+    let size = p.size;
+    if p.of_answer {
+        return sheet::part(answer, start, size);
+    }
+    sheet::part(exercise, start, size)
+}
+
+fn wide8(n: u8) -> u32
+    ensures { λ r. ⌜ r ≡ n ⌝ }
+{
+    n as u32
+}
+
+fn wide16(n: u16) -> u32
+    ensures { λ r. ⌜ r ≡ n ⌝ }
+{
+    n as u32
+}
+
+// The judge on the board of document 01: hands back the culprit, and writes number, cell, LAB and apprentice.
+pub fn judge<'a>(
+    exercise: &'a [u8],
+    answer: &'a [u8],
+    route: &mut [u8],
+    numbers: &mut [u32; 4],
+) -> &'a [u8]
+    ensures culprit { λ r. ⌜ now r ≡ bytesOf (now (exercise .entry)) (now (answer .entry)) (judged houseBoard (now (exercise .entry)) (now (answer .entry)) (length (now (route .entry))) .culprit) ⌝ }
+    ensures routes { λ r. ⌜ now (route .exit) ≡ routed houseBoard (now (exercise .entry)) (now (answer .entry)) (now (route .entry)) ⌝ }
+    ensures told { λ r. ⌜ now (numbers .exit) ≡ numbersOf (judged houseBoard (now (exercise .entry)) (now (answer .entry)) (length (now (route .entry)))) ⌝ }
+{
+    let v = judge_on(route::house_board(), exercise, answer, route);
+    let number = wide8(v.number);
+    let cell = wide16(v.cell);
+    let lab = wide16(v.lab);
+    let apprentice = v.apprentice;
+    *numbers = [number, cell, lab, apprentice];
+    part_of(exercise, answer, v.culprit)
+}

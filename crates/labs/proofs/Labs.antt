@@ -1,0 +1,17 @@
+-- The result of a list of cells that are handed over one by one is what rules 60 to 65 say of them. Assumes nothing.
+use Prim.Native.Nat.{ℕ}
+use mathlib.Core.Path.{_≡_}
+use mathlib.Core.List.{List, map}
+use Rattle.sheet.specs.Record.{recordAt}
+use Rattle.route.specs.Table.{Table}
+use Rattle.lab.specs.Rules.{labResult}
+use Rattle.lab.specs.Counts.{AllFit}
+use Rattle.lab.proofs.Folded.{counts-are, nets-are}
+use Rattle.lab.proofs.Result.{result-is}
+use Rattle.labs.specs.Results.{resultOf}
+
+pub result-is-lab : (t : Table) (nets : ℕ) (e is : List ℕ) → AllFit (map (recordAt nets e) is) → resultOf t nets e is ≡ labResult t (map (recordAt nets e) is)
+unfolding resultOf
+result-is-lab t nets e is fit =
+    let cs = map (recordAt nets e) is in
+    rw (counts-are cs, nets-are cs fit) (result-is t cs fit)

@@ -1,0 +1,6 @@
+pub mod Linked
+pub mod Linking
+pub mod Taking
+pub mod Filling
+pub mod Rows
+pub mod Labs

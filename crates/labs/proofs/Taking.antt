@@ -1,0 +1,71 @@
+-- How the loop of `result_from` goes: the cells that are left of the list make the rest of the counts and of the marks. And a list without cells
+-- keeps every rule and has no route. Assumes nothing.
+use Prim.Native.Nat.{ℕ, zero, suc, _+_, _-_, _≤_, _<_}
+use mathlib.Core.Path.{_≡_, refl, _∙_}
+use mathlib.Core.List.{List, [], map}
+use native.Mathlib.Nat.{sub-zero}
+use native.Mathlib.Omega.{arith}
+use lib.ListN.{length, getD, replicate}
+use borrow.Author.Tests.{lt-ltb}
+use Rattle.sheet.specs.Record.{recordAt}
+use Rattle.sheet.specs.declared.Record.{Record}
+use Rattle.distinct.specs.Nets.{markAll, readMarks}
+use Rattle.distinct.specs.UpToTwo.{codesOf}
+use Rattle.route.specs.Table.{Table}
+use Rattle.route.specs.Route.{eightBytes, labRouteOf}
+use Rattle.route.proofs.Ways.{no-needs}
+use Rattle.lab.specs.Counts.{noCounts, countsWith, countsAll, usesOf, markCells, brokenBy, onlyCode, needsHeld, resultFrom}
+use Rattle.lab.specs.declared.Counts.{Counts}
+use Rattle.lab.specs.declared.LabResult.{LabResult}
+use Rattle.lab.proofs.Folded.{marks-cons}
+use Rattle.netlist.specs.Tables.{NONE}
+use Rattle.labs.specs.Members.{walk}
+use Rattle.labs.specs.Results.{resultOf}
+
+-- the cells of a list, by their numbers
+abbrev cellsOf : ℕ → List ℕ → List ℕ → List Record
+cellsOf nets e is = map (recordAt nets e) is
+
+-- k of at most n cells are taken
+pub record Taken (nets : ℕ) (e next : List ℕ) (n start : ℕ) (m₀ : List ℕ) (counts : Counts) (marks : List ℕ) (at k : ℕ) : Type 0 where
+  pub within : k ≤ n
+  pub counted : countsAll noCounts (cellsOf nets e (walk next start n)) ≡ countsAll counts (cellsOf nets e (walk next at (n - k)))
+  pub marked : markCells m₀ (cellsOf nets e (walk next start n)) ≡ markCells marks (cellsOf nets e (walk next at (n - k)))
+
+module _ (nets : ℕ) (e next : List ℕ) (n start : ℕ) (m₀ : List ℕ) where
+  pub take-starts : (counts : Counts) → counts ≡ noCounts → Taken nets e next n start m₀ counts m₀ start 0
+  take-starts counts z = record { within = omega arith; counted = rw (sub-zero n, z); marked = rw (sub-zero n) }
+
+  module _ (counts : Counts) (marks : List ℕ) (at k : ℕ) (s : Taken nets e next n start m₀ counts marks at k) where
+    pub take-goes : (cell : Record) (counts′ : Counts) (marks′ : List ℕ) (at′ : ℕ) → k < n → at < length next → cell ≡ recordAt nets e at
+        → counts′ ≡ countsWith counts cell → marks′ ≡ markAll marks (usesOf cell) → at′ ≡ getD next at NONE → Taken nets e next n start m₀ counts′ marks′ at′ (k + 1)
+    unfolding walk countsAll
+    take-goes cell counts′ marks′ at′ h l c p q r =
+        let more : n - k ≡ suc (n - (k + 1)) = omega arith in
+        record {
+          within = omega arith;
+          counted = s .counted ∙ rw (more, lt-ltb at (length next) l, p, c, r);
+          marked = s .marked ∙ rw (more, lt-ltb at (length next) l, q, c, r, marks-cons);
+        }
+
+    pub take-ends : (t : Table) (m : ℕ) {r : LabResult} → walk next at (n - k) ≡ [] → m ≡ readMarks marks → r ≡ resultFrom t counts m
+        → r ≡ resultFrom t (countsAll noCounts (cellsOf nets e (walk next start n))) (readMarks (markCells m₀ (cellsOf nets e (walk next start n))))
+    unfolding countsAll markCells markAll
+    take-ends t m z q p = p ∙ rw (s .counted, s .marked, z, q)
+
+pub walk-all : (next : List ℕ) (at n k : ℕ) → n ≤ k → walk next at (n - k) ≡ []
+unfolding walk
+walk-all next at n k h = let none : n - k ≡ zero = omega arith in rw none
+
+no-marks : (n : ℕ) → readMarks (replicate n 0) ≡ 0
+unfolding readMarks
+no-marks zero = refl
+no-marks (suc n) = no-marks n
+
+nothing-broken : (t : Table) (m : ℕ) → m ≡ 0 → resultFrom t noCounts m ≡ record { number = 0; bytes = replicate 8 255 }
+unfolding resultFrom brokenBy needsHeld codesOf onlyCode labRouteOf eightBytes
+nothing-broken t m z = rw (z, no-needs t)
+
+pub result-none : (t : Table) (nets : ℕ) (e : List ℕ) → resultOf t nets e [] ≡ record { number = 0; bytes = replicate 8 255 }
+unfolding resultOf countsAll markCells markAll
+result-none t nets e = nothing-broken t (readMarks (replicate 1024 0)) (no-marks 1024)

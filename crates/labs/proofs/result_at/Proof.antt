@@ -1,0 +1,27 @@
+-- `labs::result_at` meets its contract: a list that begins past the cells is empty, and the result of no cells is known; else `result_from` has it.
+-- Assumes nothing.
+use mathlib.Core.Path.{sym}
+use borrow.Author.Needs.{needs}
+use Rattle.labs.specs.Results.{resultAt}
+use Rattle.labs.proofs.Linked.{walk-past}
+use Rattle.labs.proofs.Taking.{result-none}
+use Rattle.labs.proofs.result_at.Statement.{statement}
+use Rattle.labs.proofs.result_at.Tie as tie
+
+returns : tie.Need-returns
+unfolding resultAt
+returns c =
+    let s = c .before .entry in
+    let a = c .before .before .before .before .before .args in
+    rw (← s .ensures, walk-past (a .next .now) (s .result) 512 (c .if1 .taken)) (sym (result-none (a .table) (a .nets) (a .exercise .now)))
+
+pub result-at-spec : {M : Type 1} → statement M
+unfolding resultAt
+result-at-spec =
+    tie.close
+    (tie.spec
+    (λ c κs. search needs)  -- entry-requires
+    (λ c. search needs)  -- cast-if1
+    returns
+    (λ c κs. search needs)  -- result-from-requires
+    (λ c. rw (← c .before .before .entry .ensures) (c .result-from .ensures)))  -- returns-2

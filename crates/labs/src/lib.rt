@@ -1,0 +1,175 @@
+use lab::Counts;
+use lab::LabResult;
+use sheet::CellNumber;
+ghost use mathlib.Core.Path.{_≡_};
+ghost use Prim.Native.Nat.{_<_, _/_, _%_};
+ghost use lib.ListN.{length, getD, set};
+ghost use Rattle.sheet.specs.Lists.{firstFrom};
+ghost use Rattle.labs.specs.Members.{Links, link, linkBelow, walk};
+ghost use Rattle.labs.specs.Results.{resultOf, resultAt, brokenLab, routeByte, rowFrom};
+
+// The number of LABs.
+pub const LABS: u16 = 1024;
+
+// Puts every cell into the list of its LAB, rising: `first` has a LAB's first cell, `next` the next cell of the same LAB.
+pub fn link_cells(answer: &[u8], cells: u16, first: &mut [u16], next: &mut [u16])
+    ensures firsts { λ _. ⌜ now (first .exit) ≡ linkBelow (now (answer .entry)) (record { first = now (first .entry); next = now (next .entry) }) cells .first ⌝ }
+    ensures nexts { λ _. ⌜ now (next .exit) ≡ linkBelow (now (answer .entry)) (record { first = now (first .entry); next = now (next .entry) }) cells .next ⌝ }
+{
+    let mut i = cells;
+    while 0 < i {
+        i -= 1;
+        link(answer, i, first, next);
+    }
+}
+
+// Puts a cell in front of its LAB's list.
+fn link(answer: &[u8], i: u16, first: &mut [u16], next: &mut [u16])
+    ensures firsts { λ _. ⌜ now (first .exit) ≡ link (now (answer .entry)) (record { first = now (first .entry); next = now (next .entry) }) i .first ⌝ }
+    ensures nexts { λ _. ⌜ now (next .exit) ≡ link (now (answer .entry)) (record { first = now (first .entry); next = now (next .entry) }) i .next ⌝ }
+{
+    let lab = placing::lab_of(answer, i) as usize;
+    store(next, i as usize, entry(first, lab));
+    store(first, lab, i);
+}
+
+// Stores a cell in a table, where the table has the place.
+fn store(table: &mut [u16], i: usize, cell: u16)
+    ensures { λ _. ⌜ now (table .exit) ≡ set (now (table .entry)) i cell ⌝ }
+{
+    if i < table.len() {
+        table[i] = cell;
+    }
+}
+
+// An entry of a table of cells, 65,535 past its end.
+fn entry(table: &[u16], i: usize) -> u16
+    ensures { λ r. ⌜ r ≡ getD (now (table .entry)) i 65535 ⌝ }
+{
+    if i < table.len() {
+        return table[i];
+    }
+    65535
+}
+
+// The result of the LAB whose list begins with a cell.
+fn result_from(
+    table: [[bool; 5]; 6],
+    exercise: &[u8],
+    nets: u16,
+    next: &[u16],
+    start: u16,
+) -> LabResult
+    ensures { λ r. ⌜ r ≡ resultOf table nets (now (exercise .entry)) (walk (now (next .entry)) start 512) ⌝ }
+{
+    let mut counts = Counts::none();
+    let mut marks = [0u8; 1024];
+    let mut at = start;
+    let mut k: usize = 0;
+    while k < 512 {
+        if next.len() <= at as usize {
+            return lab::lab_result(table, counts, distinct::count_read(&marks));
+        }
+        let cell = sheet::record_at(exercise, CellNumber(at), nets);
+        counts = counts.with(cell);
+        lab::mark_cell(&mut marks, cell);
+        at = entry(next, at as usize);
+        k += 1;
+    }
+    lab::lab_result(table, counts, distinct::count_read(&marks))
+}
+
+// The result of a LAB. One without cells keeps every rule and has eight 255s.
+pub fn result_at(
+    table: [[bool; 5]; 6],
+    exercise: &[u8],
+    nets: u16,
+    first: &[u16],
+    next: &[u16],
+    lab: usize,
+) -> LabResult
+    ensures { λ r. ⌜ r ≡ resultAt table nets (now (exercise .entry)) (now (first .entry)) (now (next .entry)) lab ⌝ }
+{
+    let start = entry(first, lab);
+    if next.len() <= start as usize {
+        return LabResult {
+            number: 0,
+            bytes: [255u8; 8],
+        };
+    }
+    result_from(table, exercise, nets, next, start)
+}
+
+// 60 to 65: the lowest LAB that breaks one of them, or 1,024.
+pub fn first_broken_lab(
+    table: [[bool; 5]; 6],
+    exercise: &[u8],
+    nets: u16,
+    first: &[u16],
+    next: &[u16],
+) -> u16
+    ensures { λ r. ⌜ r ≡ firstFrom (brokenLab table nets (now (exercise .entry)) (now (first .entry)) (now (next .entry))) 0 1024 ⌝ }
+{
+    let mut lab: u16 = 0;
+    while lab < LABS {
+        if is_broken(table, exercise, nets, first, next, lab) {
+            return lab;
+        }
+        lab += 1;
+    }
+    lab
+}
+
+fn is_broken(
+    table: [[bool; 5]; 6],
+    exercise: &[u8],
+    nets: u16,
+    first: &[u16],
+    next: &[u16],
+    lab: u16,
+) -> bool
+    ensures { λ r. ⌜ r ≡ brokenLab table nets (now (exercise .entry)) (now (first .entry)) (now (next .entry)) lab ⌝ }
+{
+    let result = result_at(table, exercise, nets, first, next, lab as usize);
+    result.number != 0
+}
+
+// The route bytes of the LAB that byte k belongs to, where those of the byte before are held.
+fn bytes_at(
+    table: [[bool; 5]; 6],
+    exercise: &[u8],
+    nets: u16,
+    first: &[u16],
+    next: &[u16],
+    k: usize,
+    held: [u8; 8],
+) -> [u8; 8]
+    requires { ⌜ ((k % 8 ≡ 0 → ⊥) → held ≡ resultAt table nets (now exercise) (now first) (now next) (k / 8) .bytes) ⌝ }
+    ensures { λ r. ⌜ r ≡ resultAt table nets (now (exercise .entry)) (now (first .entry)) (now (next .entry)) (k / 8) .bytes ⌝ }
+{
+    if k % 8 == 0 {
+        let result = result_at(table, exercise, nets, first, next, k / 8);
+        return result.bytes;
+    }
+    held
+}
+
+// Writes the route bytes of every LAB: byte k of the buffer belongs to LAB k / 8.
+pub fn write_routes(
+    table: [[bool; 5]; 6],
+    exercise: &[u8],
+    nets: u16,
+    first: &[u16],
+    next: &[u16],
+    route: &mut [u8],
+)
+    ensures { λ _. ⌜ now (route .exit) ≡ rowFrom (routeByte table nets (now (exercise .entry)) (now (first .entry)) (now (next .entry))) 0 (length (now (route .entry))) ⌝ }
+{
+    let mut held = [255u8; 8];
+    let mut k = 0;
+    while k < route.len() {
+        held = bytes_at(table, exercise, nets, first, next, k, held);
+        route[k] = held[k % 8];
+        k += 1;
+    }
+}

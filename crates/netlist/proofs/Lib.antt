@@ -1,0 +1,6 @@
+pub mod Steps
+pub mod Below
+pub mod Decoded
+pub mod Stores
+pub mod Double
+pub mod Carry

@@ -1,0 +1,96 @@
+-- What the rules on places leave: a cell that 26 passes stands within the device, and carries that each go on where 51 wants them climb by
+-- one LE at each step, so that they never come back to where they began. Assumes nothing.
+use Prim.Native.Nat.{ℕ, zero, suc, _+_, _*_, _<_, _≤_}
+use native.Mathlib.Omega.{arith}
+use native.Mathlib.Nat.{add-zero}
+use mathlib.Core.Path.{_≡_, refl, sym, ap, _∙_}
+use mathlib.Core.Bool.{Bool, true, false, cond, not, _&&_, _||_, true≢false}
+use mathlib.Core.List.{List}
+use lib.ListN.{length, drop}
+use lib.Seq.{getD-take, getD-drop}
+use lib.Dec.{eqb, ltb}
+use borrow.Author.Tests.{ltb-false, eqb-true}
+use mathlib.Core.Logic.{_⊎_, ⊎-elim}
+use denote.Enum.Declared.{tagOf, declared}
+use Rattle.sheet.proofs.Laws.{by-test}
+use Rattle.sheet.proofs.Record.{enum}
+use Rattle.sheet.specs.Record.{recordAt}
+use Rattle.sheet.specs.declared.Record.{Record}
+use Rattle.sheet.specs.declared.Record.the-variants.{Combinational, Register, Malformed}
+use Rattle.sheet.specs.Bytes.{byteAt, partAt}
+use Rattle.sheet.specs.Answer.{placeStart, placePart, outOfRange, placedOf, placedAt}
+use Rattle.sheet.specs.declared.Placed.{Placed}
+use Rattle.sheet.specs.declared.Placed.the-variants.{At, OutOfRange}
+use Rattle.placing.specs.Places.{xAt, yAt, leAt, labAt, isOutOfRange, outOfRangeAt, follows, detachedBy, detachedAt}
+
+pub both : (p q : Bool) → p && q ≡ true → (p ≡ true) × (q ≡ true)
+both true q h = (refl, h)
+both false q h = absurd (true≢false (sym h))
+
+neither : (p q : Bool) → p || q ≡ false → (p ≡ false) × (q ≡ false)
+neither true q h = absurd (true≢false h)
+neither false q h = (refl, h)
+
+-- ---- 26
+-- byte k of a part is that of the sheet
+part-byte : (s : List ℕ) (start size k : ℕ) → k < size → byteAt (partAt s start size) k ≡ byteAt s (start + k)
+part-byte s start size k h = getD-take size (drop start s) k 0 h ∙ getD-drop start s k 0
+
+kept : (p q : Bool) (z : Placed) → isOutOfRange (cond p OutOfRange (cond q OutOfRange z)) ≡ false → q ≡ false
+kept true q z h = absurd (true≢false h)
+kept false true z h = absurd (true≢false h)
+kept false false z h = refl
+
+pub in-range : (a : List ℕ) (i : ℕ) → outOfRangeAt a i ≡ false → (xAt a i < 32) × (yAt a i < 32) × (leAt a i < 16)
+unfolding outOfRangeAt placedAt placedOf
+in-range a i h =
+    let p = placePart a i in
+    let low : (k n : ℕ) → k < 4 → ltb n (byteAt p k) ≡ false → byteAt a (placeStart i + k) ≤ n =
+    λ k n l t. rw (part-byte a (placeStart i) 4 k l) at (ltb-false n (byteAt p k) t) in
+    let le = neither _ _ (kept (not (eqb (length p) 4)) (outOfRange p) _ h) .0 in
+    let y = neither (ltb 31 (byteAt p 0) || ltb 31 (byteAt p 1)) (ltb 15 (byteAt p 2)) le .0 in
+    let column : xAt a i ≤ 31 = simp add-zero at (low 0 31 (omega arith) (neither (ltb 31 (byteAt p 0)) (ltb 31 (byteAt p 1)) y .0)) in
+    let row : yAt a i ≤ 31 = low 1 31 (omega arith) (neither (ltb 31 (byteAt p 0)) (ltb 31 (byteAt p 1)) y .1) in
+    let element : leAt a i ≤ 15 = low 2 15 (omega arith) (neither (ltb 31 (byteAt p 0) || ltb 31 (byteAt p 1)) (ltb 15 (byteAt p 2)) le .1) in
+    (omega arith, omega arith, omega arith)
+
+pub lab-in-range : (a : List ℕ) (i : ℕ) → outOfRangeAt a i ≡ false → labAt a i < 1024
+unfolding labAt
+lab-in-range a i h = let r = in-range a i h in omega arith
+
+-- ---- 51
+-- a carry climbs by one LE, where a row holds 16 and y falls
+pub climbs : (a : List ℕ) (j i : ℕ) → follows a j i ≡ true → leAt a i + 16 * yAt a j ≡ leAt a j + 1 + 16 * yAt a i
+unfolding follows
+climbs a j i h =
+    let goes = both (eqb (xAt a i) (xAt a j)) _ h .1 in
+    by-test (eqb (leAt a j) 15)
+    (λ t. let g = both (eqb (leAt a i) 0) _ (rw t at goes) in let l = eqb-true (leAt a j) 15 t in let n = eqb-true (leAt a i) 0 (g .0) in let y = eqb-true (yAt a i + 1) (yAt a j) (g .1) in omega arith)
+    (λ t. let g = both (eqb (leAt a i) (leAt a j + 1)) _ (rw t at goes) in let n = eqb-true (leAt a i) (leAt a j + 1) (g .0) in let y = eqb-true (yAt a i) (yAt a j) (g .1) in omega arith)
+
+-- cells of which each stands where the carry from the one before goes on
+module _ (a : List ℕ) (cell : ℕ → ℕ) where
+  climbed : (k : ℕ) → ((m : ℕ) → m < k → follows a (cell m) (cell (suc m)) ≡ true) → leAt a (cell k) + 16 * yAt a (cell 0) ≡ leAt a (cell 0) + k + 16 * yAt a (cell k)
+  climbed zero h = omega arith
+  climbed (suc k) h = omega (arith, climbed k (λ m l. h m (omega arith)), climbs a (cell k) (cell (suc k)) (h k (omega arith)))
+
+  -- "a ring of carries never passes"
+  pub no-ring : (k : ℕ) → ((m : ℕ) → m < suc k → follows a (cell m) (cell (suc m)) ≡ true) → cell (suc k) ≡ cell 0 → ⊥
+  no-ring k h e = omega (arith, climbed (suc k) h, ap (leAt a) e, ap (yAt a) e)
+
+-- ---- what a test of an enum says
+-- 26 at a cell is what the place that was read says
+pub place-told : (a : List ℕ) (i : ℕ) (d z : Placed) → d ≡ placedAt a i → d ≡ z → isOutOfRange z ≡ outOfRangeAt a i
+unfolding outOfRangeAt
+place-told a i d z h k = ap isOutOfRange (sym k ∙ h)
+
+-- only a combinational cell is fed
+pub not-fed : (drivers a : List ℕ) (i : ℕ) (cell : Record) → (tagOf (declared enum) cell ≡ 1) ⊎ (tagOf (declared enum) cell ≡ 2) → false ≡ detachedBy drivers a i cell
+unfolding detachedBy
+not-fed drivers a i (Combinational c) h = absurd (⊎-elim (λ e. omega arith) (λ e. omega arith) h)
+not-fed drivers a i (Register r) h = refl
+not-fed drivers a i Malformed h = refl
+
+pub detached-told : (drivers a : List ℕ) (nets : ℕ) (e : List ℕ) (i : ℕ) (cell : Record) (b : Bool) → cell ≡ recordAt nets e i → b ≡ detachedBy drivers a i cell → b ≡ detachedAt drivers a nets e i
+unfolding detachedAt
+detached-told drivers a nets e i cell b h k = k ∙ ap (detachedBy drivers a i) h

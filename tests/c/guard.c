@@ -1,0 +1,110 @@
+/* Calls the judge as the tablet would: empty sheets, route buffers of every length around the right one with guard bytes on both
+ * sides, damaged sheets. Built with the address and undefined-behaviour sanitizers. */
+#include "../../c/nurimkkot.h"
+
+#include <stdio.h>
+#include <stdlib.h>
+#include <string.h>
+
+#define GUARD 64
+
+/* The worked listing of document 01. */
+static const uint8_t EXERCISE[57] = {
+    'L', 'X', 'E', 1, 0, 4, 0, 2, 0,
+    2, 0, 4, 0, 6, 0, 0, 0, 8, 0, 0, 0, 0, 0, 0, 0, 10, 0, 0, 0, 0, 0, 0, 0,
+    1, 0, 10, 0, 0, 0, 0, 0, 0, 0, 0, 0, 4, 0, 0, 0, 0, 0, 0, 0, 0, 0, 0, 0,
+};
+static const uint8_t ANSWER[19] = {
+    'L', 'X', 'A', 1, 0, 7, 0, 0, 0, 2, 0, 2, 1, 0, 0, 2, 1, 0, 0,
+};
+
+static int failures;
+
+static void expect(int holds, const char *what, long at)
+{
+    if (!holds) {
+        printf("FAILED: %s (%ld)\n", what, at);
+        failures++;
+    }
+}
+
+/* A copy of its own for each sheet, so that a read past the end is seen. */
+static uint8_t *copy_of(const uint8_t *bytes, size_t length)
+{
+    uint8_t *copy = malloc(length ? length : 1);
+    if (length)
+        memcpy(copy, bytes, length);
+    return copy;
+}
+
+/* Judges with a route buffer between guard bytes; returns the verdict and leaves the buffer in `route`. */
+static void judge(const uint8_t *exercise, size_t exercise_length, const uint8_t *answer, size_t answer_length,
+                  uint8_t *route, size_t route_length, uint64_t *numbers)
+{
+    uint8_t *e = copy_of(exercise, exercise_length);
+    uint8_t *a = copy_of(answer, answer_length);
+    uint8_t *room = malloc(route_length + 2 * GUARD);
+    uint64_t guarded[NURIMKKOT_NUMBERS + 2];
+    size_t i;
+    memset(room, 0xa5, route_length + 2 * GUARD);
+    memset(guarded, 0x5a, sizeof guarded);
+    nurimkkot_judge(e, exercise_length, a, answer_length, room + GUARD, route_length, guarded + 1);
+    for (i = 0; i < GUARD; i++) {
+        expect(room[i] == 0xa5, "guard in front of the route", (long)i);
+        expect(room[GUARD + route_length + i] == 0xa5, "guard behind the route", (long)i);
+    }
+    expect(guarded[0] == 0x5a5a5a5a5a5a5a5a, "guard in front of the numbers", 0);
+    expect(guarded[NURIMKKOT_NUMBERS + 1] == 0x5a5a5a5a5a5a5a5a, "guard behind the numbers", 0);
+    memcpy(numbers, guarded + 1, sizeof(uint64_t) * NURIMKKOT_NUMBERS);
+    if (numbers[NURIMKKOT_NUMBER] != 0)
+        for (i = 0; i < route_length; i++)
+            expect(room[GUARD + i] == 0xa5, "route touched on a refusal", (long)i);
+    memcpy(route, room + GUARD, route_length);
+    free(room);
+    free(a);
+    free(e);
+}
+
+int main(void)
+{
+    static const size_t lengths[] = {0, 1, 8191, 8192, 8193};
+    static uint8_t route[8193];
+    uint8_t damaged[sizeof EXERCISE];
+    uint64_t numbers[NURIMKKOT_NUMBERS];
+    size_t i;
+
+    for (i = 0; i < sizeof lengths / sizeof lengths[0]; i++) {
+        judge(EXERCISE, sizeof EXERCISE, ANSWER, sizeof ANSWER, route, lengths[i], numbers);
+        expect(numbers[NURIMKKOT_NUMBER] == (lengths[i] == 8192 ? 0 : 1), "verdict by the route's length", (long)lengths[i]);
+        expect(numbers[NURIMKKOT_APPRENTICE] == (lengths[i] == 8192 ? 7 : 0), "apprentice by the route's length", (long)lengths[i]);
+        expect(numbers[NURIMKKOT_SHEET] == 1 && numbers[NURIMKKOT_START] == sizeof ANSWER && numbers[NURIMKKOT_LENGTH] == 0,
+               "empty part at the answer's end", (long)lengths[i]);
+    }
+
+    judge(EXERCISE, sizeof EXERCISE, ANSWER, sizeof ANSWER, route, 8192, numbers);
+    for (i = 0; i < 8192; i++)
+        expect(route[i] == (i == 8 * 34 ? 0 : i == 8 * 34 + 4 ? 1 : 255), "route of the worked listing", (long)i);
+
+    judge(EXERCISE, 0, ANSWER, 0, route, 8192, numbers);
+    expect(numbers[NURIMKKOT_NUMBER] == 10, "empty sheets", 0);
+    judge(EXERCISE, sizeof EXERCISE, ANSWER, 0, route, 8192, numbers);
+    expect(numbers[NURIMKKOT_NUMBER] == 20, "empty answer", 0);
+
+    for (i = 0; i < sizeof EXERCISE; i++) {
+        judge(EXERCISE, i, ANSWER, sizeof ANSWER, route, 8192, numbers);
+        expect(numbers[NURIMKKOT_NUMBER] == (i < 9 ? 10 : 14), "exercise cut short", (long)i);
+        expect(numbers[NURIMKKOT_LENGTH] == (i < 9 ? i : 9), "culprit of an exercise cut short", (long)i);
+    }
+    for (i = 0; i < sizeof ANSWER; i++) {
+        judge(EXERCISE, sizeof EXERCISE, ANSWER, i, route, 8192, numbers);
+        expect(numbers[NURIMKKOT_NUMBER] == (i < 11 ? 20 : 25), "answer cut short", (long)i);
+    }
+    for (i = 0; i < 8 * sizeof EXERCISE; i++) {
+        memcpy(damaged, EXERCISE, sizeof EXERCISE);
+        damaged[i / 8] ^= (uint8_t)(1u << (i % 8));
+        judge(damaged, sizeof damaged, ANSWER, sizeof ANSWER, route, 8192, numbers);
+        expect(numbers[NURIMKKOT_NUMBER] <= 65, "one bit of the exercise changed", (long)i);
+    }
+    printf(failures ? "%d failures\n" : "C: all as expected\n", failures);
+    return failures != 0;
+}

@@ -1,0 +1,251 @@
+//! Time per judgement of the proved judge and of the Rust judge on the same
+//! sheets, and how it grows with the number of cells.
+
+mod generate;
+mod judge;
+mod proved;
+
+use generate::*;
+use std::hint::black_box;
+use std::time::{Duration, Instant};
+
+const SIZES: [usize; 4] = [8, 32, 128, 512];
+const VARIANTS: usize = 8;
+const RUNS: usize = 151;
+// Short runs, many of them: other work on the machine then spoils only a few.
+const RUN_TIME: Duration = Duration::from_micros(200);
+
+#[derive(Clone, Copy)]
+enum Outcome {
+    Legal,
+    NoApprentice,
+    Clocks,
+    NoWay,
+}
+
+impl Outcome {
+    fn number(self) -> u32 {
+        match self {
+            Outcome::Legal => 0,
+            Outcome::NoApprentice => 23,
+            Outcome::Clocks => 60,
+            Outcome::NoWay => 65,
+        }
+    }
+
+    fn name(self) -> &'static str {
+        match self {
+            Outcome::Legal => "legal",
+            Outcome::NoApprentice => "refused early",
+            Outcome::Clocks | Outcome::NoWay => "refused in last LAB",
+        }
+    }
+}
+
+/// Full LABs, or one cell to a LAB with three in the last; the last one is broken
+/// as the outcome says.
+fn sheets(rng: &mut Rng, size: usize, many: bool, outcome: Outcome) -> Sheets {
+    let mut s = Sheets {
+        nets: 0,
+        cells: Vec::new(),
+        apprentice: 1 + rng.below(1000) as u32,
+    };
+    let mut fresh = || {
+        s.nets += 1;
+        net(s.nets - 1)
+    };
+    // Control and data nets, the same for all LABs.
+    let control: Vec<u16> = (0..12).map(|_| fresh()).collect();
+    let data: Vec<u16> = (0..16).map(|_| fresh()).collect();
+    let last_registers = if many { 3 } else { 4 };
+    let labs = if many {
+        size - last_registers + 1
+    } else {
+        size.div_ceil(32)
+    };
+    let step = 1024 / labs;
+    let shift = rng.below(step);
+    for k in 0..labs {
+        let lab = k * step + shift;
+        let last = k + 1 == labs;
+        let (registers, combinational) = match (many, last) {
+            (true, true) => (last_registers, 0),
+            (true, false) => (k % 2, 1 - k % 2),
+            _ => ((size / labs) / 2, (size / labs) / 2),
+        };
+        for j in 0..registers {
+            let mut c = Cell::new(REGISTER, lab, j);
+            let two = j % 2;
+            c.s[DATAIN] = rng.pick(&data);
+            c.s[CLK] = control[two];
+            c.s[ENA] = control[2];
+            c.s[ACLR] = control[4];
+            if two == 0 {
+                (c.s[SCLR], c.s[SLOAD], c.s[SDATA]) = (control[6], control[7], rng.pick(&data));
+            }
+            match outcome {
+                Outcome::Clocks if last && j + 1 == registers => c.s[CLK] = control[8],
+                // Two clk, two ena, two aclr: no way.
+                Outcome::NoWay if last => {
+                    (c.s[SCLR], c.s[SLOAD]) = (0, 0);
+                    (c.s[ENA], c.s[ACLR]) = (control[2 + two], control[4 + two]);
+                }
+                _ => {}
+            }
+            c.s[REGOUT] = fresh();
+            s.cells.push(c);
+        }
+        // Half of a LAB's combinational cells are a carry chain.
+        let mut carry = 0;
+        for j in 0..combinational {
+            let mut c = Cell::new(COMBINATIONAL, lab, j);
+            c.s[CIN] = carry;
+            c.flag = (carry != 0) as u8;
+            carry = if j + 1 < combinational / 2 {
+                fresh()
+            } else {
+                0
+            };
+            c.s[COUT] = carry;
+            c.s[COMBOUT] = fresh();
+            c.s[DATAA] = rng.pick(&data);
+            c.s[DATAB] = rng.pick(&data) + 1;
+            if c.s[CIN] | c.s[COUT] == 0 {
+                (c.s[DATAC], c.s[DATAD]) = (rng.pick(&data), rng.pick(&data));
+            }
+            s.cells.push(c);
+        }
+    }
+    rng.shuffle(&mut s.cells);
+    if let Outcome::NoApprentice = outcome {
+        s.apprentice = 0;
+    }
+    s
+}
+
+/// Nanoseconds per call over one run.
+fn run(inputs: &[(Vec<u8>, Vec<u8>)], rounds: usize, mut judge: impl FnMut(&[u8], &[u8])) -> f64 {
+    let start = Instant::now();
+    for _ in 0..rounds {
+        for (e, a) in inputs {
+            judge(black_box(e), black_box(a));
+        }
+    }
+    start.elapsed().as_nanos() as f64 / (rounds * inputs.len()) as f64
+}
+
+/// Rounds that fill one run's time.
+fn rounds(inputs: &[(Vec<u8>, Vec<u8>)], mut judge: impl FnMut(&[u8], &[u8])) -> usize {
+    let mut n = 1;
+    loop {
+        let took = run(inputs, n, &mut judge) * (n * inputs.len()) as f64;
+        if took * 4.0 >= RUN_TIME.as_nanos() as f64 || n >= 1 << 20 {
+            let scale = RUN_TIME.as_nanos() as f64 / took.max(1.0);
+            return ((n as f64 * scale) as usize).max(1);
+        }
+        n *= 2;
+    }
+}
+
+fn median(mut v: Vec<f64>) -> f64 {
+    v.sort_by(f64::total_cmp);
+    v[v.len() / 2]
+}
+
+fn main() {
+    let mut rng = Rng::new(1);
+    let mut route = vec![0u8; judge::ROUTE];
+    let mut growth = Vec::new();
+    println!("time per judgement, median of up to {RUNS} runs over {VARIANTS} pairs of sheets");
+    println!(
+        "{:<21}{:>4}  {:<10}{:>6}{:>6}{:>13}{:>13}{:>8}",
+        "outcome", "no.", "spread", "cells", "LABs", "proved us", "Rust us", "ratio"
+    );
+    for outcome in [
+        Outcome::Legal,
+        Outcome::NoApprentice,
+        Outcome::Clocks,
+        Outcome::NoWay,
+    ] {
+        for many in [false, true] {
+            let spread = if many { "many LABs" } else { "few LABs" };
+            let mut series = Vec::new();
+            for size in SIZES {
+                let mut inputs = Vec::new();
+                let mut labs = 0;
+                for _ in 0..VARIANTS {
+                    let s = sheets(&mut rng, size, many, outcome);
+                    let mut l: Vec<usize> = s.cells.iter().map(|c| c.lab()).collect();
+                    l.sort_unstable();
+                    l.dedup();
+                    labs = l.len();
+                    let (e, a) = (s.exercise(), s.answer());
+                    let v = proved::numbers(&judge::judge(&e, &a, &mut route));
+                    let highest = if v[0] >= 60 {
+                        *l.last().unwrap() as u32
+                    } else {
+                        65535
+                    };
+                    assert_eq!(s.cells.len(), size);
+                    assert_eq!((v[0], v[2]), (outcome.number() as u64, highest as u64));
+                    assert_eq!(proved::judge(&e, &a, &mut route), v);
+                    inputs.push((e, a));
+                }
+                let mut proved = |e: &[u8], a: &[u8]| {
+                    black_box(proved::judge(e, a, &mut route));
+                };
+                let n = rounds(&inputs, &mut proved);
+                let mut other_route = vec![0u8; judge::ROUTE];
+                let mut rust = |e: &[u8], a: &[u8]| {
+                    black_box(judge::judge(e, a, &mut other_route));
+                };
+                let m = rounds(&inputs, &mut rust);
+                let (mut left, mut right) = (Vec::new(), Vec::new());
+                // Fewer runs where a single round already fills the time.
+                let runs = if n == 1 { RUNS / 8 } else { RUNS };
+                for _ in 0..runs {
+                    left.push(run(&inputs, n, &mut proved));
+                    right.push(run(&inputs, m, &mut rust));
+                }
+                let (p, y) = (median(left) / 1000.0, median(right) / 1000.0);
+                println!(
+                    "{:<21}{:>4}  {:<10}{:>6}{:>6}{:>13.3}{:>13.3}{:>8.2}",
+                    outcome.name(),
+                    outcome.number(),
+                    spread,
+                    size,
+                    labs,
+                    p,
+                    y,
+                    p / y
+                );
+                series.push((p, y));
+            }
+            growth.push((outcome, spread, series));
+        }
+    }
+
+    println!();
+    println!("growth: time at four times the cells over time before (4 is linear, 16 is square)");
+    println!(
+        "{:<21}{:>4}  {:<10}{:<11}{:>9}{:>11}{:>12}{:>16}",
+        "outcome", "no.", "spread", "judge", "8 to 32", "32 to 128", "128 to 512", "ns/cell at 512"
+    );
+    for (outcome, spread, series) in &growth {
+        let proved: Vec<f64> = series.iter().map(|s| s.0).collect();
+        let rust: Vec<f64> = series.iter().map(|s| s.1).collect();
+        for (who, t) in [("proved", proved), ("Rust", rust)] {
+            println!(
+                "{:<21}{:>4}  {:<10}{:<11}{:>9.2}{:>11.2}{:>12.2}{:>16.1}",
+                outcome.name(),
+                outcome.number(),
+                spread,
+                who,
+                t[1] / t[0],
+                t[2] / t[1],
+                t[3] / t[2],
+                t[3] * 1000.0 / 512.0
+            );
+        }
+    }
+}

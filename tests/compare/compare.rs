@@ -1,0 +1,478 @@
+//! Judges seeded pairs of sheets by the proved judge and by the Rust judge and
+//! stops at the first difference.
+//! Arguments: number of pairs (200000), seed (1).
+
+mod generate;
+mod judge;
+mod proved;
+
+use generate::*;
+use std::collections::HashSet;
+use std::fmt::Write;
+use std::process::exit;
+
+const GUARD: usize = 64;
+const NO_NEEDS: [u8; 8] = [255; 8];
+
+fn hex(title: &str, b: &[u8]) -> String {
+    let mut t = format!("{title}, {} bytes\n", b.len());
+    for (i, row) in b.chunks(16).enumerate() {
+        let _ = write!(t, "  {:05x} ", 16 * i);
+        for v in row {
+            let _ = write!(t, " {v:02x}");
+        }
+        t.push('\n');
+    }
+    t
+}
+
+fn describe(n: &[u64; 7]) -> String {
+    format!(
+        "number {} cell {} lab {} apprentice {} sheet {} start {} size {}",
+        n[0], n[1], n[2], n[3], n[4], n[5], n[6]
+    )
+}
+
+/// Both judges on the same sheets, each with its own copy of the route buffer,
+/// guarded at both ends.
+struct Both {
+    before: Vec<u8>,
+    left: Vec<u8>,
+    right: Vec<u8>,
+}
+
+impl Both {
+    fn new() -> Both {
+        Both {
+            before: Vec::new(),
+            left: Vec::new(),
+            right: Vec::new(),
+        }
+    }
+
+    /// The agreed answer, or an account of the difference.
+    fn run(
+        &mut self,
+        exercise: &[u8],
+        answer: &[u8],
+        pattern: &[u8],
+        route: usize,
+    ) -> Result<[u64; 7], String> {
+        let whole = &pattern[..route + 2 * GUARD];
+        for b in [&mut self.before, &mut self.left, &mut self.right] {
+            b.clear();
+            b.extend_from_slice(whole);
+        }
+        let lent = GUARD..GUARD + route;
+        let a = proved::judge(exercise, answer, &mut self.left[lent.clone()]);
+        let b = proved::numbers(&judge::judge(exercise, answer, &mut self.right[lent]));
+        let mut wrong = String::new();
+        if a != b {
+            wrong.push_str("the answers differ\n");
+        }
+        if self.left != self.right {
+            let i = self
+                .left
+                .iter()
+                .zip(&self.right)
+                .position(|(x, y)| x != y)
+                .unwrap_or(0);
+            let at = i as i64 - GUARD as i64;
+            let _ = writeln!(
+                wrong,
+                "route byte {at} (lab {}) differs: proved {}, Rust {}, before {}",
+                at.div_euclid(8),
+                self.left[i],
+                self.right[i],
+                self.before[i]
+            );
+        }
+        for (who, n, buffer) in [("proved", &a, &self.left), ("Rust", &b, &self.right)] {
+            if n[0] != 0 && *buffer != self.before {
+                let _ = writeln!(wrong, "{who}: a refusal changed the route buffer");
+            }
+        }
+        if wrong.is_empty() {
+            return Ok(a);
+        }
+        let _ = writeln!(wrong, "proved: {}\nRust:   {}", describe(&a), describe(&b));
+        wrong.push_str(&hex("exercise", exercise));
+        wrong.push_str(&hex("answer", answer));
+        let _ = writeln!(wrong, "route buffer of {route} bytes");
+        Err(wrong)
+    }
+
+    fn route(&self) -> &[u8] {
+        &self.left[GUARD..self.left.len() - GUARD]
+    }
+}
+
+/// What a settled example has to give.
+enum Expect {
+    /// Legal, with the route bytes of these LABs; all others have eight 255s.
+    Legal(Vec<(usize, [u8; 8])>),
+    /// Number, cell, LAB, and the culprit's sheet, start and size.
+    Refused(u64, u64, u64, [u64; 3]),
+}
+
+struct Example {
+    name: String,
+    sheets: Sheets,
+    expect: Expect,
+}
+
+const NO: u64 = 65535;
+
+/// Distinct registers in one LAB, each with its own regout net after `nets`.
+fn registers(nets: u16, lab: usize, ports: &[&[(usize, u16)]]) -> Sheets {
+    let mut s = Sheets {
+        nets: nets + ports.len() as u16,
+        cells: Vec::new(),
+        apprentice: 7,
+    };
+    for (i, list) in ports.iter().enumerate() {
+        let mut c = Cell::new(REGISTER, lab, i);
+        for &(port, v) in *list {
+            c.s[port] = v;
+        }
+        c.s[REGOUT] = net(nets + i as u16);
+        s.cells.push(c);
+    }
+    s
+}
+
+fn examples() -> Vec<Example> {
+    let mut list = Vec::new();
+    let mut add = |name: &str, sheets: Sheets, expect: Expect| {
+        list.push(Example {
+            name: name.to_string(),
+            sheets,
+            expect,
+        })
+    };
+    // The LAB rule in the LAB of cell 0.
+    let lab_rule = |number: u64, lab: u64| Expect::Refused(number, NO, lab, [1, 11, 4]);
+
+    // The listing in full.
+    let mut r = Cell::new(REGISTER, 34, 0);
+    (r.s[DATAIN], r.s[CLK], r.s[ACLR], r.s[REGOUT]) = (net(0), net(1), net(2), net(3));
+    let mut c = Cell::new(COMBINATIONAL, 34, 0);
+    (c.s[DATAA], c.s[COMBOUT]) = (net(3), net(0));
+    let listing = Sheets {
+        nets: 4,
+        cells: vec![r, c],
+        apprentice: 7,
+    };
+    add(
+        "listing",
+        listing,
+        Expect::Legal(vec![(34, [0, 255, 255, 255, 1, 255, 255, 255])]),
+    );
+
+    add(
+        "no cells",
+        Sheets {
+            nets: 0,
+            cells: vec![],
+            apprentice: 7,
+        },
+        Expect::Legal(vec![]),
+    );
+
+    // P1 to P8: two pairs leave room for none, one pair for one more.
+    let (a, b, c, d, e, f) = (net(0), net(1), net(2), net(3), net(4), net(5));
+    let pairs: [[(u16, u16); 2]; 8] = [
+        [(a, b), (c, d)],
+        [(a, b), (a, c)],
+        [(a, c), (b, c)],
+        [(a, b), (a, b)],
+        [(a, 0), (b, 0)],
+        [(a, 0), (a, 0)],
+        [(a, 0), (a, b)],
+        [(a, b), (0, 0)],
+    ];
+    let counts = [2, 2, 2, 1, 2, 1, 2, 2];
+    // With two clk and two ena the entries are 0, 1 and 2, 3; fewer take the first.
+    let routes: [[u8; 8]; 8] = [
+        [0, 1, 2, 3, 255, 255, 255, 255],
+        [0, 255, 2, 3, 255, 255, 255, 255],
+        [0, 1, 2, 255, 255, 255, 255, 255],
+        [0, 255, 2, 255, 255, 255, 255, 255],
+        [0, 1, 255, 255, 255, 255, 255, 255],
+        [0, 255, 255, 255, 255, 255, 255, 255],
+        [0, 255, 2, 255, 255, 255, 255, 255],
+        [0, 255, 2, 255, 255, 255, 255, 255],
+    ];
+    for (k, p) in pairs.iter().enumerate() {
+        let lab = 100 + k;
+        let port = |&(clk, ena): &(u16, u16)| [(CLK, clk), (ENA, ena)];
+        let own: Vec<[(usize, u16); 2]> = p.iter().map(port).collect();
+        let more = [[(CLK, a), (ENA, e)], [(CLK, a), (ENA, f)]];
+        let with = |n: usize| {
+            let all: Vec<&[(usize, u16)]> = own.iter().chain(&more[..n]).map(|x| &x[..]).collect();
+            registers(6, lab, &all)
+        };
+        add(
+            &format!("P{}", k + 1),
+            with(0),
+            Expect::Legal(vec![(lab, routes[k])]),
+        );
+        let room = 2 - counts[k];
+        if room == 1 {
+            let ena = if k == 3 { 3 } else { 255 };
+            let route = [0, 255, 2, ena, 255, 255, 255, 255];
+            add(
+                &format!("P{} and one pair", k + 1),
+                with(1),
+                Expect::Legal(vec![(lab, route)]),
+            );
+        }
+        add(
+            &format!("P{} and a pair too many", k + 1),
+            with(room + 1),
+            lab_rule(61, lab as u64),
+        );
+    }
+    let slip = registers(
+        4,
+        5,
+        &[
+            &[(CLK, a), (ENA, b)],
+            &[(CLK, a), (ENA, c)],
+            &[(CLK, d), (ENA, b)],
+        ],
+    );
+    add(
+        "two clocks, two enables, three pairs",
+        slip,
+        lab_rule(61, 5),
+    );
+
+    // P9 to P12.
+    let n = net;
+    let p9 = registers(3, 0, &[&[(CLK, n(0)), (ENA, n(1)), (ACLR, n(2))]]);
+    add(
+        "P9",
+        p9,
+        Expect::Legal(vec![(0, [0, 255, 2, 255, 1, 255, 255, 255])]),
+    );
+    let p10 = registers(
+        4,
+        1023,
+        &[&[(CLK, n(0)), (ACLR, n(2))], &[(CLK, n(1)), (ACLR, n(3))]],
+    );
+    add(
+        "P10",
+        p10,
+        Expect::Legal(vec![(1023, [0, 2, 255, 255, 1, 4, 255, 255])]),
+    );
+    let p11 = registers(
+        6,
+        31,
+        &[
+            &[(CLK, n(0)), (ENA, n(2)), (ACLR, n(4))],
+            &[(CLK, n(1)), (ENA, n(3)), (ACLR, n(5))],
+        ],
+    );
+    add("P11", p11, lab_rule(65, 31));
+    let p12 = registers(
+        7,
+        992,
+        &[
+            &[
+                (CLK, n(0)),
+                (ACLR, n(2)),
+                (SCLR, n(4)),
+                (SLOAD, n(5)),
+                (SDATA, n(6)),
+            ],
+            &[(CLK, n(1)), (ACLR, n(3))],
+        ],
+    );
+    add(
+        "P12",
+        p12,
+        Expect::Legal(vec![(992, [0, 2, 255, 255, 1, 4, 5, 3])]),
+    );
+
+    let three = registers(1, 40, &[&[(CLK, net(0))], &[(CLK, net(0) + 1)], &[]]);
+    add("clocks A, inverse of A and GND", three, lab_rule(60, 40));
+
+    // 38 and 39 nets in, spread over combinational cells of one LAB.
+    for reads in [38, 39] {
+        let mut cells = Vec::new();
+        for i in 0..10 {
+            let mut c = Cell::new(COMBINATIONAL, 77, i);
+            for port in DATAA..=DATAD {
+                let k = 4 * i + port;
+                if k < reads {
+                    c.s[port] = net(k as u16) + (k % 2) as u16;
+                }
+            }
+            cells.push(c);
+        }
+        let s = Sheets {
+            nets: 39,
+            cells,
+            apprentice: 7,
+        };
+        let expect = if reads == 38 {
+            Expect::Legal(vec![(77, NO_NEEDS)])
+        } else {
+            lab_rule(64, 77)
+        };
+        add(&format!("{reads} nets in"), s, expect);
+    }
+
+    for le in [15, 16] {
+        let mut cells = vec![
+            Cell::new(COMBINATIONAL, 3, 0),
+            Cell::new(COMBINATIONAL, 3, 1),
+        ];
+        cells[1].le = le;
+        let s = Sheets {
+            nets: 0,
+            cells,
+            apprentice: 7,
+        };
+        let expect = match le {
+            15 => Expect::Legal(vec![(3, NO_NEEDS)]),
+            _ => Expect::Refused(26, 1, NO, [1, 15, 4]),
+        };
+        add(&format!("LE {le}"), s, expect);
+    }
+
+    for n in [512, 513] {
+        let cells = (0..n)
+            .map(|i| Cell::new(COMBINATIONAL, i / 16, i % 16))
+            .collect();
+        let s = Sheets {
+            nets: 1024,
+            cells,
+            apprentice: 7,
+        };
+        let expect = match n {
+            512 => Expect::Legal(vec![]),
+            _ => Expect::Refused(13, NO, NO, [0, 0, 9]),
+        };
+        add(&format!("{n} cells"), s, expect);
+    }
+    list
+}
+
+fn run_examples(both: &mut Both, pattern: &[u8]) {
+    let all = examples();
+    for x in &all {
+        let (e, a) = (x.sheets.exercise(), x.sheets.answer());
+        let got = both
+            .run(&e, &a, pattern, judge::ROUTE)
+            .unwrap_or_else(|wrong| {
+                print!("example {}: {wrong}", x.name);
+                exit(1);
+            });
+        let end = a.len() as u64;
+        let (want, routes) = match &x.expect {
+            Expect::Legal(routes) => ([0, NO, NO, x.sheets.apprentice as u64, 1, end, 0], Some(routes)),
+            Expect::Refused(number, cell, lab, [sheet, start, size]) => {
+                let apprentice = if *number < 24 { 0 } else { x.sheets.apprentice };
+                (
+                    [*number, *cell, *lab, apprentice as u64, *sheet, *start, *size],
+                    None,
+                )
+            }
+        };
+        let mut bytes = pattern[GUARD..GUARD + judge::ROUTE].to_vec();
+        if let Some(routes) = routes {
+            bytes.fill(255);
+            for (lab, r) in routes {
+                bytes[8 * lab..8 * lab + 8].copy_from_slice(r);
+            }
+        }
+        if got != want || both.route() != bytes {
+            println!(
+                "example {}\nwanted:    {}\nboth gave: {}",
+                x.name,
+                describe(&want),
+                describe(&got)
+            );
+            if let Some(i) = (0..bytes.len()).find(|&i| both.route()[i] != bytes[i]) {
+                println!(
+                    "route byte {i}: wanted {}, got {}",
+                    bytes[i],
+                    both.route()[i]
+                );
+            }
+            exit(1);
+        }
+    }
+    println!("{} settled examples agree", all.len());
+}
+
+fn main() {
+    let mut args = std::env::args().skip(1);
+    let mut number = |default: u64| match args.next() {
+        None => default,
+        Some(t) => t.parse().unwrap_or_else(|_| {
+            println!("usage: compare [pairs [seed]]");
+            exit(2);
+        }),
+    };
+    let pairs = number(200_000);
+    let seed = number(1);
+
+    let mut rng = Rng::new(seed);
+    let longest = 16384 + 2 * GUARD;
+    let pattern: Vec<u8> = (0..longest + 4096).map(|_| rng.byte()).collect();
+    let mut both = Both::new();
+    run_examples(&mut both, &pattern);
+
+    let mut counts = [0u64; 256];
+    let mut places = HashSet::new();
+    let started = std::time::Instant::now();
+    for i in 0..pairs {
+        let case = generate::case(&mut rng);
+        // A pattern of its own for each pair; now and then plain 255s or zeros.
+        let from = rng.below(4096);
+        let plain;
+        let fill = match rng.below(32) {
+            0 => {
+                plain = vec![255; longest];
+                &plain[..]
+            }
+            1 => {
+                plain = vec![0; longest];
+                &plain[..]
+            }
+            _ => &pattern[from..from + longest],
+        };
+        match both.run(&case.exercise, &case.answer, fill, case.route) {
+            Ok(n) => {
+                counts[n[0] as usize] += 1;
+                let place = if n[0] >= 60 { n[2] } else { n[1] };
+                if place != NO {
+                    places.insert((n[0], place));
+                }
+            }
+            Err(wrong) => {
+                println!("pair {i} of seed {seed} ({}): {wrong}", case.name);
+                exit(1);
+            }
+        }
+    }
+
+    println!(
+        "{pairs} pairs of seed {seed} agree ({:.1} s)",
+        started.elapsed().as_secs_f64()
+    );
+    println!("number    pairs  different cells or LABs");
+    let mut missing = false;
+    for n in NUMBERS {
+        let seen = places.iter().filter(|p| p.0 == n as u64).count();
+        println!("{n:>6} {:>8}  {seen:>8}", counts[n as usize]);
+        missing |= counts[n as usize] == 0;
+    }
+    if missing {
+        println!("a number did not occur");
+        exit(1);
+    }
+}

@@ -1,0 +1,668 @@
+//! The judge in plain Rust: linear passes, tables by net, a list of cells per LAB.
+
+#[derive(Clone, Copy, Debug, PartialEq, Eq)]
+pub struct Verdict {
+    pub number: u8,
+    pub cell: u16,
+    pub lab: u16,
+    pub apprentice: u32,
+    /// 0 exercise, 1 answer.
+    pub sheet: u8,
+    pub start: u64,
+    pub size: u64,
+}
+
+pub const NONE: u16 = 65535;
+pub const ROUTE: usize = 8192;
+const MAX_NETS: usize = 1024;
+const MAX_CELLS: usize = 512;
+const LABS: usize = 1024;
+
+const COMBINATIONAL: u8 = 1;
+const REGISTER: u8 = 2;
+
+// Ports of a combinational cell.
+const DATAC: usize = 2;
+const DATAD: usize = 3;
+const CIN: usize = 4;
+const COMBOUT: usize = 5;
+const COUT: usize = 6;
+
+// Ports of a register.
+const DATAIN: usize = 0;
+const CLK: usize = 1;
+const ENA: usize = 2;
+const ACLR: usize = 3;
+const SCLR: usize = 4;
+const SLOAD: usize = 5;
+const SDATA: usize = 6;
+const REGOUT: usize = 7;
+
+const GND: u16 = 1;
+const VCC: u16 = 2;
+const FIRST_NET: u16 = 4;
+
+// Tables by net are read at code / 2: slots 0 and 1 take the constants, net n
+// has slot n + 2.
+const SLOTS: usize = MAX_NETS + 2;
+
+#[derive(Clone, Copy)]
+struct Cell {
+    kind: u8,
+    flag: u8,
+    s: [u16; 11],
+}
+
+// Entry by role: clk, ena, aclr, sclr, sload.
+const ENTRIES: [[bool; 5]; 6] = [
+    [true, false, false, false, false],
+    [true, false, true, false, false],
+    [true, true, false, false, false],
+    [false, true, false, false, true],
+    [false, false, true, true, false],
+    [false, false, false, true, true],
+];
+
+// The earliest way depends only on how many needs each role has, so all 108
+// cases are worked out at compile time. A first byte of NO_WAY marks none.
+const NO_WAY: u8 = 254;
+static WAYS: [[u8; 8]; 108] = all_ways();
+
+const fn way_index(clk: usize, ena: usize, aclr: usize, sclr: usize, sload: usize) -> usize {
+    (((clk * 3 + ena) * 3 + aclr) * 2 + sclr) * 2 + sload
+}
+
+const fn all_ways() -> [[u8; 8]; 108] {
+    let mut table = [[255; 8]; 108];
+    let mut i = 0;
+    while i < 108 {
+        let counts = [i / 36, i / 12 % 3, i / 4 % 3, i / 2 % 2, i % 2];
+        // Needs in order: role and route byte.
+        let first = [0, 2, 4, 6, 7];
+        let mut roles = [0; 8];
+        let mut bytes = [0; 8];
+        let mut n = 0;
+        let mut role = 0;
+        while role < 5 {
+            let mut k = 0;
+            while k < counts[role] {
+                roles[n] = role;
+                bytes[n] = first[role] + k;
+                n += 1;
+                k += 1;
+            }
+            role += 1;
+        }
+        let mut entries = [255; 8];
+        if earliest_way(&roles, n, 0, 0, &mut entries) {
+            let mut k = 0;
+            while k < n {
+                table[i][bytes[k]] = entries[k];
+                k += 1;
+            }
+        } else {
+            table[i][0] = NO_WAY;
+        }
+        i += 1;
+    }
+    table
+}
+
+const fn earliest_way(
+    roles: &[usize; 8],
+    n: usize,
+    at: usize,
+    taken: u8,
+    out: &mut [u8; 8],
+) -> bool {
+    if at == n {
+        return true;
+    }
+    let mut e = 0;
+    while e < 6 {
+        if taken & (1 << e) == 0 && ENTRIES[e][roles[at]] {
+            out[at] = e as u8;
+            if earliest_way(roles, n, at + 1, taken | (1 << e), out) {
+                return true;
+            }
+        }
+        e += 1;
+    }
+    false
+}
+
+/// Up to two distinct values; `n` goes beyond two when there are more.
+struct Two {
+    n: usize,
+    v: [u32; 2],
+}
+
+impl Two {
+    #[inline(always)]
+    fn new() -> Two {
+        Two {
+            n: 0,
+            v: [u32::MAX; 2],
+        }
+    }
+
+    #[inline(always)]
+    fn add(&mut self, x: u32, counts: bool) {
+        if counts & (x != self.v[0]) & (x != self.v[1]) {
+            if self.n < 2 {
+                self.v[self.n] = x;
+            }
+            self.n += 1;
+        }
+    }
+
+    /// How many of the (at most two) values are nets.
+    #[inline(always)]
+    fn nets(&self) -> usize {
+        let net = |x: u32| ((x != u32::MAX) & (x >= FIRST_NET as u32)) as usize;
+        net(self.v[0]) + net(self.v[1])
+    }
+}
+
+#[inline(always)]
+fn word(b: &[u8], at: usize) -> u16 {
+    u16::from_le_bytes([b[at], b[at + 1]])
+}
+
+/// For a sound code: GND or an inverted net. These are the odd codes.
+#[inline(always)]
+fn odd(v: u16) -> bool {
+    v & 1 == 1
+}
+
+fn at_exercise_head(number: u8, exercise: &[u8]) -> Verdict {
+    let size = exercise.len().min(9) as u64;
+    Verdict {
+        number,
+        cell: NONE,
+        lab: NONE,
+        apprentice: 0,
+        sheet: 0,
+        start: 0,
+        size,
+    }
+}
+
+fn at_answer_head(number: u8, apprentice: u32, answer: &[u8]) -> Verdict {
+    let size = answer.len().min(11) as u64;
+    Verdict {
+        number,
+        cell: NONE,
+        lab: NONE,
+        apprentice,
+        sheet: 1,
+        start: 0,
+        size,
+    }
+}
+
+fn at_exercise_record(number: u8, apprentice: u32, cell: usize) -> Verdict {
+    let start = 9 + 24 * cell as u64;
+    Verdict {
+        number,
+        cell: cell as u16,
+        lab: NONE,
+        apprentice,
+        sheet: 0,
+        start,
+        size: 24,
+    }
+}
+
+fn at_answer_record(number: u8, apprentice: u32, cell: usize) -> Verdict {
+    let start = 11 + 4 * cell as u64;
+    Verdict {
+        number,
+        cell: cell as u16,
+        lab: NONE,
+        apprentice,
+        sheet: 1,
+        start,
+        size: 4,
+    }
+}
+
+fn at_answer_end(number: u8, apprentice: u32, answer: &[u8]) -> Verdict {
+    let start = answer.len() as u64;
+    Verdict {
+        number,
+        cell: NONE,
+        lab: NONE,
+        apprentice,
+        sheet: 1,
+        start,
+        size: 0,
+    }
+}
+
+pub fn judge(exercise: &[u8], answer: &[u8], route: &mut [u8]) -> Verdict {
+    if route.len() != ROUTE {
+        return at_answer_end(1, 0, answer);
+    }
+    if exercise.len() < 9 {
+        return at_exercise_head(10, exercise);
+    }
+    if &exercise[..3] != b"LXE" {
+        return at_exercise_head(11, exercise);
+    }
+    if word(exercise, 3) != 1 {
+        return at_exercise_head(12, exercise);
+    }
+    let nets = word(exercise, 5) as usize;
+    let count = word(exercise, 7) as usize;
+    if nets > MAX_NETS || count > MAX_CELLS {
+        return at_exercise_head(13, exercise);
+    }
+    if exercise.len() != 9 + 24 * count {
+        return at_exercise_head(14, exercise);
+    }
+    judge_cells(exercise, nets, count, answer, route)
+}
+
+/// Everything from rule 15 on; the exercise's head is sound.
+#[inline(never)]
+fn judge_cells(
+    exercise: &[u8],
+    nets: usize,
+    count: usize,
+    answer: &[u8],
+    route: &mut [u8],
+) -> Verdict {
+    // 15 and 16, decoding each record once. The passes avoid branches on the
+    // kind, which alternates at random; later ones take each kind by itself.
+    let mut store = [Cell {
+        kind: 0,
+        flag: 0,
+        s: [0; 11],
+    }; MAX_CELLS];
+    let cells = &mut store[..count];
+    // Driving cell + 1 by net, 0 for none, and whether by its cout.
+    let mut driver = [0u16; SLOTS];
+    let mut by_cout = [false; SLOTS];
+    let mut registers = List::new();
+    let mut combinational = List::new();
+    let mut carries = 0;
+    let limit = FIRST_NET + 2 * nets as u16;
+    let mut twice = None;
+    for (i, (r, c)) in exercise[9..]
+        .chunks_exact(24)
+        .zip(cells.iter_mut())
+        .enumerate()
+    {
+        let mut bad = false;
+        for (k, s) in c.s.iter_mut().enumerate() {
+            let v = word(r, 2 + 2 * k);
+            bad |= (v == 3) | (v >= limit);
+            *s = v;
+        }
+        c.kind = r[0];
+        c.flag = r[1];
+        let s = &c.s;
+        let is_register = c.kind == REGISTER;
+        let is_combinational = c.kind == COMBINATIONAL;
+        let first = if is_register { s[REGOUT] } else { s[COMBOUT] };
+        let second = if is_register { 0 } else { s[COUT] };
+        let rest = if is_register { 0 } else { s[7] } | s[8] | s[9] | s[10];
+        bad |= !(is_register | is_combinational) | (c.flag > is_combinational as u8) | (rest != 0);
+        bad |= odd(first) | (first == VCC) | odd(second) | (second == VCC);
+        if bad {
+            return at_exercise_record(15, 0, i);
+        }
+        registers.push_if(i, is_register);
+        combinational.push_if(i, is_combinational);
+        // An unconnected output goes to slot 0, which is never asked.
+        let me = i as u16 + 1;
+        let slot = first as usize / 2;
+        let again = (first != 0) & (driver[slot] != 0);
+        driver[slot] = me;
+        let slot = second as usize / 2;
+        let again = again | ((second != 0) & (driver[slot] != 0));
+        driver[slot] = me;
+        by_cout[slot] = second != 0;
+        carries += (second != 0) as u32;
+        if again && twice.is_none() {
+            twice = Some(i);
+        }
+    }
+    if let Some(i) = twice {
+        return at_exercise_record(16, 0, i);
+    }
+
+    if answer.len() < 11 {
+        return at_answer_head(20, 0, answer);
+    }
+    if &answer[..3] != b"LXA" {
+        return at_answer_head(21, 0, answer);
+    }
+    if word(answer, 3) != 1 {
+        return at_answer_head(22, 0, answer);
+    }
+    let apprentice = u32::from_le_bytes([answer[5], answer[6], answer[7], answer[8]]);
+    if apprentice == 0 {
+        return at_answer_head(23, 0, answer);
+    }
+    let placed = word(answer, 9) as usize;
+    if placed != count {
+        return at_answer_head(24, apprentice, answer);
+    }
+    if answer.len() != 11 + 4 * placed {
+        return at_answer_head(25, apprentice, answer);
+    }
+
+    // 26; a place is LAB number * 16 + LE.
+    let mut place = [0u16; MAX_CELLS];
+    for (i, (r, p)) in answer[11..]
+        .chunks_exact(4)
+        .zip(place.iter_mut())
+        .enumerate()
+    {
+        let [x, y, le, zero] = [r[0], r[1], r[2], r[3]];
+        if (x > 31) | (y > 31) | (le > 15) | (zero != 0) {
+            return at_answer_record(26, apprentice, i);
+        }
+        *p = (y as u16) << 9 | (x as u16) << 4 | le as u16;
+    }
+
+    // 30 to 44: the first broken cell of each kind, then the lower of the two.
+    let mut broken = (MAX_CELLS, 0);
+    for i in registers.cells() {
+        let number = register_rules(&cells[i].s);
+        if number != 0 {
+            broken = (i, number);
+            break;
+        }
+    }
+    // Reads of the nets driven by a cout: how many, and the cell + 1 at whose cin.
+    let mut reads = [0u16; SLOTS];
+    let mut reader = [0u16; SLOTS];
+    if carries != 0 {
+        for i in combinational.cells() {
+            let s = &cells[i].s;
+            for &v in &s[..CIN] {
+                if by_cout[v as usize / 2] {
+                    reads[v as usize / 2] += 1;
+                }
+            }
+            let slot = s[CIN] as usize / 2;
+            reads[slot] += by_cout[slot] as u16;
+            reader[slot] = i as u16 + 1;
+        }
+        for i in registers.cells() {
+            for &v in &cells[i].s[..REGOUT] {
+                if by_cout[v as usize / 2] {
+                    reads[v as usize / 2] += 1;
+                }
+            }
+        }
+    }
+    for i in combinational.cells() {
+        let c = &cells[i];
+        let me = i as u16 + 1;
+        let (cin, cout) = (c.s[CIN] as usize / 2, c.s[COUT] as usize / 2);
+        let fed = by_cout[cin] & (driver[cin] != me) & !odd(c.s[CIN]);
+        let read = (reads[cout] == 1) & (reader[cout] != 0) & (reader[cout] != me);
+        let number = combinational_rules(c, fed, read);
+        if number != 0 {
+            if i < broken.0 {
+                broken = (i, number);
+            }
+            break;
+        }
+    }
+    if broken.1 != 0 {
+        return at_exercise_record(broken.1, apprentice, broken.0);
+    }
+
+    // 50 by marks, 16 bits of LE for each kind.
+    let mut marks = [0u32; LABS];
+    let mut occupied = [0u64; LABS / 64];
+    for (i, (c, &p)) in cells.iter().zip(place.iter()).enumerate() {
+        let lab = p as usize >> 4;
+        let bit = 1u32 << ((p & 15) + 16 * (c.kind == REGISTER) as u16);
+        let mark = &mut marks[lab % LABS];
+        if *mark & bit != 0 {
+            return at_answer_record(50, apprentice, i);
+        }
+        *mark |= bit;
+        occupied[lab / 64 % 16] |= 1 << (lab % 64);
+    }
+
+    // 51; an unconnected cin finds some cell or other, and is not asked.
+    if carries != 0 {
+        for i in combinational.cells() {
+            let cin = cells[i].s[CIN];
+            let from = place[(driver[cin as usize / 2] as usize).wrapping_sub(1) % MAX_CELLS];
+            // After LE 15 comes LE 0 one y lower; at y = 0 that is no place.
+            let next = if from & 15 != 15 {
+                from + 1
+            } else {
+                (from & !15).wrapping_sub(1 << 9)
+            };
+            if (cin != 0) & (next != place[i]) {
+                return at_answer_record(51, apprentice, i);
+            }
+        }
+    }
+
+    // The cells of each LAB by kind, rising; cells are held + 1 and 0 ends a list.
+    let mut next = [0u16; MAX_CELLS];
+    let mut heads = [[0u16; 2]; LABS];
+    for (i, c) in cells.iter().enumerate().rev() {
+        let head = &mut heads[place[i] as usize >> 4][(c.kind == REGISTER) as usize];
+        next[i] = *head;
+        *head = i as u16 + 1;
+    }
+
+    let mut stamp = [0u16; SLOTS];
+    let mut ways = [0u8; LABS];
+    for group in 0..LABS / 64 {
+        let mut bits = occupied[group];
+        while bits != 0 {
+            let lab = group * 64 + bits.trailing_zeros() as usize;
+            bits &= bits - 1;
+            match lab_rules(lab, marks[lab], heads[lab], &next, cells, &mut stamp) {
+                Ok(way) => ways[lab] = way,
+                Err(number) => {
+                    let lowest = heads[lab]
+                        .into_iter()
+                        .filter(|&h| h != 0)
+                        .min()
+                        .unwrap_or(1);
+                    let record = at_answer_record(number, apprentice, lowest as usize - 1);
+                    return Verdict {
+                        cell: NONE,
+                        lab: lab as u16,
+                        ..record
+                    };
+                }
+            }
+        }
+    }
+
+    route.fill(255);
+    for group in 0..LABS / 64 {
+        let mut bits = occupied[group];
+        while bits != 0 {
+            let lab = group * 64 + bits.trailing_zeros() as usize;
+            bits &= bits - 1;
+            route[8 * lab..8 * lab + 8].copy_from_slice(&WAYS[ways[lab] as usize]);
+        }
+    }
+    at_answer_end(0, apprentice, answer)
+}
+
+/// Cells of one kind, rising.
+struct List {
+    n: usize,
+    cell: [u16; MAX_CELLS],
+}
+
+impl List {
+    #[inline(always)]
+    fn new() -> List {
+        List {
+            n: 0,
+            cell: [0; MAX_CELLS],
+        }
+    }
+
+    #[inline(always)]
+    fn push_if(&mut self, i: usize, wanted: bool) {
+        self.cell[self.n % MAX_CELLS] = i as u16;
+        self.n += wanted as usize;
+    }
+
+    #[inline(always)]
+    fn cells(&self) -> impl Iterator<Item = usize> + '_ {
+        self.cell[..self.n].iter().map(|&i| i as usize)
+    }
+}
+
+/// The lowest of 30 to 35 that the register breaks, or 0.
+#[inline(always)]
+fn register_rules(s: &[u16; 11]) -> u8 {
+    let open = s[CLK] == 0;
+    let broken = [
+        !open & (s[REGOUT] == 0),
+        open & (s[SCLR] != 0),
+        open & (s[SLOAD] != 0),
+        (s[SLOAD] != 0) & (s[SDATA] == 0),
+        open & (s[ENA] != 0),
+        odd(s[DATAIN]) | odd(s[SDATA]),
+    ];
+    lowest(30, &broken)
+}
+
+/// The lowest of 40 to 44 that the combinational cell breaks, or 0. `fed`: cin is
+/// the uninverted net of another cell's cout; `read`: the one read of its cout is
+/// at the cin of another cell.
+#[inline(always)]
+fn combinational_rules(c: &Cell, fed: bool, read: bool) -> u8 {
+    let s = &c.s;
+    let (cin, cout) = (s[CIN] != 0, s[COUT] != 0);
+    let broken = [
+        cin & !fed,
+        cin & (c.flag == 0),
+        cout & !read,
+        (s[DATAD] != 0) & (cin | cout),
+        (s[DATAC] != 0) & cin,
+    ];
+    lowest(40, &broken)
+}
+
+#[inline(always)]
+fn lowest(first: u8, broken: &[bool]) -> u8 {
+    let any = broken.iter().fold(false, |a, &b| a | b);
+    if !any {
+        return 0;
+    }
+    first + broken.iter().position(|&b| b).unwrap_or(0) as u8
+}
+
+/// The lowest of 60 to 65 that the LAB breaks, else the place of its way.
+#[inline(always)]
+fn lab_rules(
+    lab: usize,
+    mark: u32,
+    heads: [u16; 2],
+    next: &[u16; MAX_CELLS],
+    cells: &[Cell],
+    stamp: &mut [u16; SLOTS],
+) -> Result<u8, u8> {
+    let list = |head: u16| {
+        let mut at = head;
+        std::iter::from_fn(move || {
+            let i = (at as usize).checked_sub(1)?;
+            at = next[i];
+            Some(&cells[i].s)
+        })
+    };
+    let [combinational, registers] = heads;
+
+    let mut clk = Two::new();
+    let mut pair = Two::new();
+    let mut aclr = Two::new();
+    let mut sclr = Two::new();
+    let mut sload = Two::new();
+    for s in list(registers) {
+        let used = s[REGOUT] != 0;
+        let or = |v: u16, open: u16| (if (v == 0) & used { open } else { v }) as u32;
+        let (k, e, a) = (or(s[CLK], GND), or(s[ENA], VCC), or(s[ACLR], GND));
+        clk.add(k, k != 0);
+        pair.add(k << 16 | e, k != 0);
+        aclr.add(a, a != 0);
+        sclr.add(s[SCLR] as u32, s[SCLR] > GND);
+        sload.add(s[SLOAD] as u32, s[SLOAD] > GND);
+    }
+    if clk.n > 2 {
+        return Err(60);
+    }
+    if pair.n > 2 {
+        return Err(61);
+    }
+    if aclr.n > 2 {
+        return Err(62);
+    }
+    if sclr.n > 1 || sload.n > 1 {
+        return Err(63);
+    }
+    // After 34 each connected ena stands in a pair.
+    let mut ena = Two::new();
+    for &p in &pair.v[..pair.n] {
+        ena.add(p & 0xffff, true);
+    }
+
+    // 64. After 60 to 63 at most eight nets are read at control ports, so only a
+    // LAB with enough data ports can read 39.
+    if 4 * (mark & 0xffff).count_ones() + 2 * (mark >> 16).count_ones() + 8 > 38 {
+        // Constants and nets driven inside are stamped first, so that each first
+        // read of another net is counted once.
+        let tag = lab as u16 + 1;
+        for s in list(combinational) {
+            stamp[s[COMBOUT] as usize / 2] = tag;
+            stamp[s[COUT] as usize / 2] = tag;
+        }
+        for s in list(registers) {
+            stamp[s[REGOUT] as usize / 2] = tag;
+        }
+        stamp[0] = tag;
+        stamp[1] = tag;
+        let mut read = 0;
+        let mut count = |v: u16| {
+            let t = &mut stamp[v as usize / 2];
+            read += (*t != tag) as u32;
+            *t = tag;
+        };
+        for s in list(combinational) {
+            s[..CIN].iter().for_each(|&v| count(v));
+        }
+        for s in list(registers) {
+            count(s[DATAIN]);
+            count(s[SDATA]);
+        }
+        for set in [&clk, &ena, &aclr, &sclr, &sload] {
+            set.v[..set.n].iter().for_each(|&v| count(v as u16));
+        }
+        if read > 38 {
+            return Err(64);
+        }
+    }
+
+    let way = way_index(
+        clk.nets(),
+        ena.nets(),
+        aclr.nets(),
+        sclr.nets(),
+        sload.nets(),
+    );
+    if WAYS[way][0] == NO_WAY {
+        Err(65)
+    } else {
+        Ok(way as u8)
+    }
+}

@@ -1,0 +1,1138 @@
+#!/usr/bin/env python3
+"""Sample sheets for the judge of placement exercises.
+
+    python3 tools/sheets.py make                    write all samples under samples/
+    python3 tools/sheets.py words EXERCISE ANSWER   print two sheets in words
+    python3 tools/sheets.py list                    print one line a sample
+
+This tool builds sheets and prints sheets. It does not judge them. What the judge has to
+answer for a sample is written down next to the sample: the number, the cell, the LAB, the
+apprentice, the culprit and, for a legal answer, the route bytes of each occupied LAB.
+"""
+
+import os
+import struct
+import sys
+
+# ---------------------------------------------------------------- signals and sheets
+
+OPEN = 0    # unconnected
+GND = 1
+VCC = 2
+F = 255     # a route byte without a need
+NONE = 65535
+
+
+def net(n):
+    """The signal code of net n."""
+    return 4 + 2 * n
+
+
+def inv(n):
+    """The signal code of net n inverted."""
+    return 5 + 2 * n
+
+
+def record(kind, flag, signals):
+    """One cell record of an exercise: kind, flag, eleven signals."""
+    signals = list(signals) + [0] * (11 - len(signals))
+    return struct.pack("<BB11H", kind, flag, *signals)
+
+
+def comb(a=OPEN, b=OPEN, c=OPEN, d=OPEN, cin=OPEN, o=OPEN, cout=OPEN, flag=0):
+    """A combinational cell; o is combout."""
+    return record(1, flag, [a, b, c, d, cin, o, cout])
+
+
+def reg(d=OPEN, clk=OPEN, ena=OPEN, aclr=OPEN, sclr=OPEN, sload=OPEN, sdata=OPEN,
+        q=OPEN, flag=0):
+    """A register; d is datain, q is regout."""
+    return record(2, flag, [d, clk, ena, aclr, sclr, sload, sdata, q])
+
+
+def exercise(nets, *cells):
+    """An exercise sheet."""
+    return b"LXE" + struct.pack("<HHH", 1, nets, len(cells)) + b"".join(cells)
+
+
+def answer(apprentice, *places):
+    """An answer sheet; a place is (x, y, LE)."""
+    head = b"LXA" + struct.pack("<HIH", 1, apprentice, len(places))
+    return head + b"".join(bytes([x, y, le, 0]) for x, y, le in places)
+
+
+def patch(sheet, start, *values):
+    """The sheet with the bytes from start on replaced."""
+    return sheet[:start] + bytes(values) + sheet[start + len(values):]
+
+
+# ---------------------------------------------------------------- sheets in words
+
+COMB_PORTS = ("dataa", "datab", "datac", "datad", "cin", "combout", "cout",
+              "zero 1", "zero 2", "zero 3", "zero 4")
+REG_PORTS = ("datain", "clk", "ena", "aclr", "sclr", "sload", "sdata", "regout",
+             "zero 1", "zero 2", "zero 3")
+RAW_PORTS = tuple("signal %d" % i for i in range(11))
+OUTPUTS = ("combout", "cout", "regout")
+
+
+def count_of(n, what):
+    return "%d %s%s" % (n, what, "" if n == 1 else "s")
+
+
+def hexes(data):
+    """Bytes in hexadecimal, the first sixteen of them."""
+    text = " ".join("%02x" % b for b in data[:16])
+    return text + (" ..." if len(data) > 16 else "")
+
+
+def number_at(data, start, size):
+    """The little-endian number at start, or None where its bytes are missing."""
+    if len(data) < start + size:
+        return None
+    return int.from_bytes(data[start:start + size], "little")
+
+
+def signal_words(name, code, nets):
+    """A connected port as name=signal, with what is bad about it; None if unconnected."""
+    if code == 0:
+        return None
+    bad = ""
+    if code == 1:
+        text = "GND"
+    elif code == 2:
+        text = "VCC"
+    elif code == 3:
+        text = "code 3"
+        bad = " (bad: no such signal)"
+    else:
+        n = (code - 4) // 2
+        text = ("/net %d" if code % 2 else "net %d") % n
+        if n >= nets:
+            bad = " (bad: the sheet has %s)" % count_of(nets, "net")
+    if not bad and name.startswith("zero"):
+        bad = " (bad: must be 0)"
+    if not bad and name in OUTPUTS and (code < 4 or code % 2):
+        bad = " (bad: an output is an uninverted net)"
+    return "%s=%s%s" % (name, text, bad)
+
+
+def cell_words(data, nets):
+    """One whole exercise record in words."""
+    kind, flag = data[0], data[1]
+    codes = struct.unpack("<11H", data[2:24])
+    if kind == 1:
+        parts, ports = ["combinational"], COMB_PORTS
+        flag_bad = "" if flag in (0, 1) else " (bad: must be 0 or 1)"
+    elif kind == 2:
+        parts, ports = ["register"], REG_PORTS
+        flag_bad = "" if flag == 0 else " (bad: must be 0)"
+    else:
+        parts, ports = ["kind %d (bad: must be 1 or 2)" % kind], RAW_PORTS
+        flag_bad = ""
+    parts.append("flag %d%s" % (flag, flag_bad))
+    for name, code in zip(ports, codes):
+        words = signal_words(name, code, nets)
+        if words:
+            parts.append(words)
+    return ", ".join(parts)
+
+
+def place_words(data):
+    """One whole answer record in words."""
+    parts = []
+    for name, value, top in (("x", data[0], 31), ("y", data[1], 31), ("LE", data[2], 15)):
+        bad = " (bad: over %d)" % top if value > top else ""
+        parts.append("%s %d%s" % (name, value, bad))
+    if data[3]:
+        parts.append("last byte %d (bad: must be 0)" % data[3])
+    return "place " + " ".join(parts)
+
+
+def part_words(what, data, start, size, whole):
+    """The record at start in words, or how much of it is there."""
+    part = data[start:start + size]
+    if len(part) == size:
+        return whole(part)
+    if part:
+        return "%s cut short, %d of %d bytes: %s" % (what, len(part), size, hexes(part))
+    return "%s missing" % what
+
+
+def head_words(what, data, mark, size, fields):
+    """The header of a sheet in words. Fields are (name, start, size, complaint)."""
+    if data is None:
+        return ["%s: no file, counts as empty" % what]
+    lines = ["%s: %s" % (what, count_of(len(data), "byte"))]
+    if len(data) < size:
+        lines.append("  header cut short, %d of %d bytes: %d missing"
+                     % (len(data), size, size - len(data)))
+    if data:
+        seen = data[:3]
+        if seen == mark:
+            lines.append("  mark %s" % mark.decode())
+        elif len(seen) < 3:
+            lines.append("  mark cut short: %s" % hexes(seen))
+        else:
+            shown = "".join(chr(b) if 32 < b < 127 else "." for b in seen)
+            lines.append("  mark %s, %s (bad: must be %s)"
+                         % (shown, hexes(seen), mark.decode()))
+    for name, start, width, complaint in fields:
+        value = number_at(data, start, width)
+        if value is not None:
+            bad = complaint(value)
+            lines.append("  %s %d%s" % (name, value, " (bad: %s)" % bad if bad else ""))
+        elif len(data) > start:
+            lines.append("  %s cut short: %s" % (name, hexes(data[start:start + width])))
+    return lines
+
+
+def records(data, head, size, cells):
+    """How many records show at least one byte."""
+    return min(cells, max(0, -(-(len(data) - head) // size)))
+
+
+def tail_words(data, head, size, cells, shown):
+    """What is missing or left over after the records that show."""
+    lines = []
+    if shown < cells:
+        if shown + 1 == cells:
+            lines.append("  record missing for cell %d" % shown)
+        else:
+            lines.append("  records missing for cells %d to %d" % (shown, cells - 1))
+    end = head + size * cells
+    if len(data) > end:
+        lines.append("  %s left over at the end: %s"
+                     % (count_of(len(data) - end, "byte"), hexes(data[end:])))
+    return lines
+
+
+def words(ex, an):
+    """Two sheets in words. Each is a byte run, or None for a missing file."""
+    version_bad = lambda v: "" if v == 1 else "must be 1"
+    lines = head_words("exercise", ex, b"LXE", 9, [
+        ("version", 3, 2, version_bad),
+        ("nets", 5, 2, lambda v: "at most 1024" if v > 1024 else ""),
+        ("cells", 7, 2, lambda v: "at most 512" if v > 512 else ""),
+    ])
+    ex = ex or b""
+    nets = number_at(ex, 5, 2) or 0
+    ex_cells = number_at(ex, 7, 2) or 0
+    ex_shown = records(ex, 9, 24, ex_cells)
+    lines += tail_words(ex, 9, 24, ex_cells, ex_shown)
+
+    lines += head_words("answer", an, b"LXA", 11, [
+        ("version", 3, 2, version_bad),
+        ("apprentice", 5, 4, lambda v: "" if v else "must not be 0"),
+        ("cells", 9, 2, lambda v: "the exercise has %d" % ex_cells
+         if len(ex) >= 9 and v != ex_cells else ""),
+    ])
+    an = an or b""
+    an_cells = number_at(an, 9, 2) or 0
+    an_shown = records(an, 11, 4, an_cells)
+    lines += tail_words(an, 11, 4, an_cells, an_shown)
+
+    for i in range(max(ex_shown, an_shown)):
+        if i < ex_shown:
+            left = part_words("record", ex, 9 + 24 * i, 24, lambda p: cell_words(p, nets))
+        else:
+            left = "no record on the exercise sheet"
+        if i < an_shown:
+            right = part_words("place", an, 11 + 4 * i, 4, place_words)
+        else:
+            right = "no place on the answer sheet"
+        lines.append("cell %d: %s; %s" % (i, left, right))
+    return "\n".join(lines) + "\n"
+
+
+# ---------------------------------------------------------------- expected answers
+
+class Expected:
+    """What the judge has to answer, written down by hand."""
+
+    def __init__(self, number, culprit, cell=NONE, lab=NONE, apprentice=0, routes=None):
+        self.number = number
+        self.cell = cell
+        self.lab = lab
+        self.apprentice = apprentice
+        self.culprit = culprit          # (sheet, start, length)
+        self.routes = routes or {}      # LAB number -> eight route bytes
+
+    def route_lines(self):
+        return "".join("route %d %s\n" % (lab, " ".join(str(b) for b in self.routes[lab]))
+                       for lab in sorted(self.routes))
+
+    def expected_lines(self):
+        return ("number %d\ncell %d\nlab %d\napprentice %d\nculprit %s %d %d\n"
+                % ((self.number, self.cell, self.lab, self.apprentice) + self.culprit)
+                + self.route_lines())
+
+    def listing(self):
+        dash = lambda value, none: "-" if value == none else str(value)
+        text = "verdict %d cell %s lab %s apprentice %d\n" % (
+            self.number, dash(self.cell, NONE), dash(self.lab, NONE), self.apprentice)
+        for lab in sorted(self.routes):
+            text += ("lab %d clk %s %s ena %s %s aclr %s %s sclr %s sload %s\n"
+                     % ((lab,) + tuple(dash(b, F) for b in self.routes[lab])))
+        return text
+
+
+def legal(apprentice, end, routes):
+    """A legal answer; end is the length of the answer sheet."""
+    return Expected(0, ("answer", end, 0), apprentice=apprentice, routes=routes)
+
+
+EMPTY = [F, F, F, F, F, F, F, F]    # an occupied LAB without needs
+
+# ---------------------------------------------------------------- the samples
+
+SAMPLES = []
+
+
+def sample(name, why, ex, an, expected):
+    SAMPLES.append((name, why, ex, an, expected))
+
+
+# The worked listing, used by the header samples too: 57 and 19 bytes.
+LISTING_CELLS = (
+    reg(d=net(0), clk=net(1), aclr=net(2), q=net(3)),
+    comb(a=net(3), o=net(0)),
+)
+LISTING_EX = exercise(4, *LISTING_CELLS)
+LISTING_AN = answer(7, (2, 1, 0), (2, 1, 0))
+
+
+def settled_samples():
+    sample("listing", "the worked listing: one register and one combinational cell share an LE",
+           LISTING_EX, LISTING_AN,
+           legal(7, 19, {34: [0, F, F, F, 1, F, F, F]}))
+
+    sample("p09", "one clk, one ena, one aclr: entries 0, 2, 1",
+           exercise(5, reg(d=net(4), clk=net(0), ena=net(1), aclr=net(2), q=net(3))),
+           answer(9, (3, 2, 5)),
+           legal(9, 15, {67: [0, F, 2, F, 1, F, F, F]}))
+
+    sample("p10", "two clk, two aclr: entries 0, 2, 1, 4",
+           exercise(7,
+                    reg(d=net(4), clk=net(0), aclr=net(2), q=net(5)),
+                    reg(d=net(5), clk=net(1), aclr=net(3), q=net(6))),
+           answer(10, (4, 2, 0), (4, 2, 1)),
+           legal(10, 19, {68: [0, 2, F, F, 1, 4, F, F]}))
+
+    sample("p11", "two clk, two ena, two aclr: no way, though six needs meet six entries",
+           exercise(9,
+                    reg(d=net(6), clk=net(0), ena=net(2), aclr=net(4), q=net(7)),
+                    reg(d=net(7), clk=net(1), ena=net(3), aclr=net(5), q=net(8))),
+           answer(11, (5, 2, 0), (5, 2, 1)),
+           Expected(65, ("answer", 11, 4), lab=69, apprentice=11))
+
+    sample("p12", "two clk, two aclr, sclr, sload: entries 0, 2, 1, 4, 5, 3",
+           exercise(10,
+                    reg(d=net(6), clk=net(0), aclr=net(2), sclr=net(4), sload=net(5),
+                        sdata=net(7), q=net(8)),
+                    reg(d=net(8), clk=net(1), aclr=net(3), q=net(9))),
+           answer(12, (6, 2, 0), (6, 2, 1)),
+           legal(12, 19, {70: [0, 2, F, F, 1, 4, 5, 3]}))
+
+
+def wide_cells():
+    """Nine combinational cells that read nets 0 to 35 and drive nets 38 to 46."""
+    return [comb(a=net(4 * i), b=net(4 * i + 1), c=net(4 * i + 2), d=net(4 * i + 3),
+                 o=net(38 + i)) for i in range(9)]
+
+
+def long_shift(cells):
+    """One shift register: clk net 0, serial input net 1, outputs from net 2 on."""
+    return exercise(2 + cells, *[reg(d=net(1 + i), clk=net(0), q=net(2 + i))
+                                 for i in range(cells)])
+
+
+def edge_samples():
+    ten = [(5, 0, i) for i in range(10)]
+    sample("edge-38-nets",
+           "38 nets read by one LAB; an inverse and a net driven inside add nothing",
+           exercise(48, *wide_cells(),
+                    comb(a=net(36), b=net(37), c=inv(0), d=net(38), o=net(47))),
+           answer(38, *ten),
+           legal(38, 51, {5: EMPTY}))
+    sample("edge-39-nets", "the same LAB with one net more",
+           exercise(49, *wide_cells(),
+                    comb(a=net(36), b=net(37), c=net(48), d=net(38), o=net(47))),
+           answer(39, *ten),
+           Expected(64, ("answer", 11, 4), lab=5, apprentice=39))
+    sample("edge-38-nets-and-carry",
+           "38 nets read by LAB 101, and a carry from LAB 133 that does not count",
+           exercise(51,
+                    comb(a=net(40), cout=net(39)),
+                    comb(a=net(0), b=net(1), cin=net(39), o=net(41), flag=1),
+                    *[comb(a=net(4 * i + 2), b=net(4 * i + 3), c=net(4 * i + 4),
+                           d=net(4 * i + 5), o=net(42 + i)) for i in range(9)]),
+           answer(40, (5, 4, 15), (5, 3, 0), *[(5, 3, 1 + i) for i in range(9)]),
+           legal(40, 55, {101: EMPTY, 133: EMPTY}))
+
+    sample("edge-le-15", "LE 15 is the last",
+           LISTING_EX, answer(15, (2, 1, 15), (2, 1, 15)),
+           legal(15, 19, {34: [0, F, F, F, 1, F, F, F]}))
+    sample("edge-le-16", "cell 1 stands in LE 16, which there is not",
+           LISTING_EX, answer(16, (2, 1, 15), (2, 1, 16)),
+           Expected(26, ("answer", 15, 4), cell=1, apprentice=16))
+
+    sample("edge-512-cells", "512 cells, the most: one shift register over 32 LABs",
+           long_shift(512), answer(512, *[(i // 16, 31, i % 16) for i in range(512)]),
+           legal(512, 2059, {992 + i: [0, F, F, F, F, F, F, F] for i in range(32)}))
+    sample("edge-513-cells", "513 cells, one too many",
+           long_shift(513),
+           answer(513, *[(i // 16, 31, i % 16) for i in range(512)], (0, 30, 0)),
+           Expected(13, ("exercise", 0, 9)))
+
+    sample("edge-1024-nets", "1,024 nets, the most, and the last LAB",
+           exercise(1024,
+                    reg(d=net(1022), clk=inv(1023), q=net(1021)),
+                    comb(a=net(1021), b=net(1023), o=net(1022))),
+           answer(1024, (31, 31, 0), (31, 31, 0)),
+           legal(1024, 19, {1023: [0, F, F, F, F, F, F, F]}))
+
+    sample("edge-three-clocks", "clocks A, the inverse of A and GND are three signals",
+           exercise(5,
+                    reg(d=net(1), clk=net(0), q=net(2)),
+                    reg(d=net(2), clk=inv(0), q=net(3)),
+                    reg(d=net(3), clk=GND, q=net(4))),
+           answer(3, (7, 1, 0), (7, 1, 1), (7, 1, 2)),
+           Expected(60, ("answer", 11, 4), lab=39, apprentice=3))
+
+    sample("edge-no-cells", "no nets, no cells, and the largest apprentice number",
+           exercise(0), answer(4294967295),
+           legal(4294967295, 11, {}))
+
+    sample("edge-both-empty", "both files are there and empty",
+           b"", b"", Expected(10, ("exercise", 0, 0)))
+    sample("missing-exercise", "no exercise.lxe: it counts as empty",
+           None, LISTING_AN, Expected(10, ("exercise", 0, 0)))
+    sample("missing-answer", "no answer.lxa: it counts as empty",
+           LISTING_EX, None, Expected(20, ("answer", 0, 0)))
+    sample("missing-both", "neither file is there",
+           None, None, Expected(10, ("exercise", 0, 0)))
+
+
+def slip_samples():
+    sample("slip-open-clock",
+           "clocks A, B and an open clk on a used register, which counts as GND: three",
+           exercise(7,
+                    comb(a=net(2), o=net(3)),
+                    reg(d=net(3), clk=net(0), q=net(4)),
+                    reg(d=net(4), clk=net(1), q=net(5)),
+                    reg(d=net(5), q=net(6))),
+           answer(201, (8, 1, 0), (9, 1, 0), (9, 1, 1), (9, 1, 2)),
+           Expected(60, ("answer", 15, 4), lab=41, apprentice=201))
+
+    sample("slip-clock-enable-pairs",
+           "(A, B), (A, C), (D, B): two clocks and two enables, but three pairs",
+           exercise(8,
+                    reg(d=net(4), clk=net(0), ena=net(1), q=net(5)),
+                    reg(d=net(5), clk=net(0), ena=net(2), q=net(6)),
+                    reg(d=net(6), clk=net(3), ena=net(1), q=net(7))),
+           answer(202, (10, 1, 0), (10, 1, 1), (10, 1, 2)),
+           Expected(61, ("answer", 11, 4), lab=42, apprentice=202))
+
+    sample("slip-lowest-free-entry",
+           "two clk, one ena, two aclr: the lowest free entry each time finds no way, "
+           "but 0, 2, 3, 1, 4 is one",
+           exercise(8,
+                    reg(d=net(5), clk=net(0), ena=net(2), aclr=net(3), q=net(6)),
+                    reg(d=net(6), clk=net(1), aclr=net(4), q=net(7))),
+           answer(203, (11, 1, 0), (11, 1, 1)),
+           legal(203, 19, {43: [0, 2, 3, F, 1, 4, F, F]}))
+
+    sample("slip-first-clash",
+           "cells 2, 3 and 4 each share an LE with a lower register: cell 2 is named",
+           exercise(7, *[reg(d=net(1 + i), clk=net(0), q=net(2 + i)) for i in range(5)]),
+           answer(204, (1, 1, 0), (1, 1, 1), (1, 1, 1), (1, 1, 0), (1, 1, 0)),
+           Expected(50, ("answer", 19, 4), cell=2, apprentice=204))
+
+
+def adder():
+    """A four-bit adder: a nets 0 to 3, b nets 4 to 7, sums 8 to 11, carries 12 to 14."""
+    return exercise(15,
+                    comb(a=net(0), b=net(4), o=net(8), cout=net(12), flag=1),
+                    comb(a=net(1), b=net(5), cin=net(12), o=net(9), cout=net(13), flag=1),
+                    comb(a=net(2), b=net(6), cin=net(13), o=net(10), cout=net(14), flag=1),
+                    comb(a=net(3), b=net(7), cin=net(14), o=net(11), flag=1))
+
+
+def carry_samples():
+    sample("carry-two-labs",
+           "a carry chain from LE 15 at y 3 to LE 0 at y 2; flag 1 without cin is allowed",
+           adder(), answer(301, (4, 3, 14), (4, 3, 15), (4, 2, 0), (4, 2, 1)),
+           legal(301, 27, {68: EMPTY, 100: EMPTY}))
+    sample("carry-at-bottom", "after LE 15 at y 0 the chain has no place to go",
+           adder(), answer(302, (4, 0, 14), (4, 0, 15), (4, 31, 0), (4, 31, 1)),
+           Expected(51, ("answer", 19, 4), cell=2, apprentice=302))
+    sample("carry-ring", "a ring of three carries: cell 2 would have to stand in LE 3",
+           exercise(9,
+                    comb(a=net(0), cin=net(8), o=net(3), cout=net(6), flag=1),
+                    comb(a=net(1), cin=net(6), o=net(4), cout=net(7), flag=1),
+                    comb(a=net(2), cin=net(7), o=net(5), cout=net(8), flag=1)),
+           answer(303, (3, 3, 1), (3, 3, 2), (3, 3, 0)),
+           Expected(51, ("answer", 19, 4), cell=2, apprentice=303))
+
+
+def exercise_sheet_samples():
+    """Numbers 10 to 16."""
+    sample("v10-too-short", "an exercise of 8 bytes",
+           LISTING_EX[:8], LISTING_AN, Expected(10, ("exercise", 0, 8)))
+    sample("v11-sheets-swapped", "the two sheets under each other's name",
+           LISTING_AN, LISTING_EX, Expected(11, ("exercise", 0, 9)))
+    sample("v12-version", "version 2",
+           patch(LISTING_EX, 3, 2, 0), LISTING_AN, Expected(12, ("exercise", 0, 9)))
+    sample("v12-byte-order", "version and counts with the high byte first: version 256",
+           patch(LISTING_EX, 3, 0, 1, 0, 4, 0, 2), LISTING_AN,
+           Expected(12, ("exercise", 0, 9)))
+    sample("v13-nets", "1,025 nets, one too many",
+           exercise(1025, *LISTING_CELLS), LISTING_AN, Expected(13, ("exercise", 0, 9)))
+    sample("v14-byte-missing", "the last byte of the exercise is missing",
+           LISTING_EX[:-1], LISTING_AN, Expected(14, ("exercise", 0, 9)))
+    sample("v14-byte-left-over", "one byte too many on the exercise",
+           LISTING_EX + b"\0", LISTING_AN, Expected(14, ("exercise", 0, 9)))
+
+    three = answer(7, (2, 1, 0), (2, 1, 0), (2, 1, 1))
+
+    def fault(name, why, cell, number=15):
+        sample(name, why, exercise(6, *LISTING_CELLS, cell), three,
+               Expected(number, ("exercise", 57, 24), cell=2))
+
+    fault("v15-kind", "cell 2 is of kind 3", record(3, 0, []))
+    fault("v15-flag", "cell 2, combinational, has flag 2",
+          comb(a=net(0), o=net(4), flag=2))
+    fault("v15-register-flag", "cell 2, a register, has flag 1",
+          reg(d=net(0), clk=net(1), q=net(4), flag=1))
+    fault("v15-code-3", "cell 2 reads signal code 3", comb(a=net(0), b=3, o=net(4)))
+    fault("v15-net-too-high", "cell 2 reads net 6 of 6", comb(a=net(6), o=net(4)))
+    fault("v15-output-inverted", "cell 2 drives an inverted net",
+          comb(a=net(0), o=inv(4)))
+    fault("v15-output-constant", "cell 2 drives VCC", reg(d=net(0), clk=net(1), q=VCC))
+    fault("v15-trailing-signal", "the last of the four zeros of cell 2 is GND",
+          record(1, 0, [net(0), 0, 0, 0, 0, net(4), 0, 0, 0, 0, GND]))
+    sample("v15-before-16", "cell 1 breaks 16, cell 2 breaks 15: 15 is asked of all cells first",
+           exercise(6, LISTING_CELLS[0], comb(a=net(0), o=net(3)), record(3, 0, [])), three,
+           Expected(15, ("exercise", 57, 24), cell=2))
+
+    fault("v16-two-drivers", "cell 2 drives net 3, as cell 0 does",
+          comb(a=net(1), o=net(3)), number=16)
+    sample("v16-combout-and-cout", "combout and cout of cell 1 drive one net",
+           exercise(4, LISTING_CELLS[0], comb(a=net(3), o=net(0), cout=net(0))), LISTING_AN,
+           Expected(16, ("exercise", 33, 24), cell=1))
+    sample("v16-first-clash", "cells 2, 3 and 4 each drive a net that is driven already: "
+           "cell 2 is named",
+           exercise(2, comb(o=net(0)), comb(o=net(1)), comb(o=net(1)), comb(o=net(0)),
+                    comb(o=net(0))),
+           answer(7, (1, 1, 0), (1, 1, 1), (1, 1, 2), (1, 1, 3), (1, 1, 4)),
+           Expected(16, ("exercise", 57, 24), cell=2))
+
+
+def answer_sheet_samples():
+    """Numbers 20 to 26."""
+    sample("v20-too-short", "an answer of 10 bytes",
+           LISTING_EX, LISTING_AN[:10], Expected(20, ("answer", 0, 10)))
+    sample("v21-mark", "the mark in small letters",
+           LISTING_EX, b"lxa" + LISTING_AN[3:], Expected(21, ("answer", 0, 11)))
+    sample("v22-version", "version 0",
+           LISTING_EX, patch(LISTING_AN, 3, 0, 0), Expected(22, ("answer", 0, 11)))
+    sample("v23-no-apprentice", "apprentice 0",
+           LISTING_EX, answer(0, (2, 1, 0), (2, 1, 0)), Expected(23, ("answer", 0, 11)))
+    sample("v24-cell-count", "three places for two cells",
+           LISTING_EX, answer(24, (2, 1, 0), (2, 1, 0), (2, 1, 1)),
+           Expected(24, ("answer", 0, 11), apprentice=24))
+    sample("v24-before-25", "the answer says three cells and has two places: 24 is asked first",
+           LISTING_EX, patch(LISTING_AN, 9, 3),
+           Expected(24, ("answer", 0, 11), apprentice=7))
+    sample("v25-byte-missing", "the last byte of the answer is missing",
+           LISTING_EX, LISTING_AN[:-1], Expected(25, ("answer", 0, 11), apprentice=7))
+    sample("v25-byte-left-over", "one byte too many on the answer",
+           LISTING_EX, LISTING_AN + b"\0", Expected(25, ("answer", 0, 11), apprentice=7))
+    sample("v26-x", "cell 1 stands at x 32",
+           LISTING_EX, answer(261, (2, 1, 0), (32, 1, 0)),
+           Expected(26, ("answer", 15, 4), cell=1, apprentice=261))
+    sample("v26-y", "cell 1 stands at y 32",
+           LISTING_EX, answer(262, (2, 1, 0), (2, 32, 0)),
+           Expected(26, ("answer", 15, 4), cell=1, apprentice=262))
+    sample("v26-last-byte", "the last byte of cell 1's place is 1",
+           LISTING_EX, patch(LISTING_AN, 18, 1),
+           Expected(26, ("answer", 15, 4), cell=1, apprentice=7))
+
+
+def register_samples():
+    """Numbers 30 to 35. Cell 0 is a good register, cell 1 the bad one."""
+    good = reg(d=net(0), clk=net(1), q=net(2))
+
+    def fault(name, why, number, apprentice, cell):
+        sample(name, why, exercise(6, good, cell), answer(apprentice, (3, 1, 0), (3, 1, 1)),
+               Expected(number, ("exercise", 33, 24), cell=1, apprentice=apprentice))
+
+    fault("v30-clk-without-regout", "cell 1 has a clk and no regout", 30, 1300,
+          reg(d=net(2), clk=net(1)))
+    fault("v31-sclr-without-clk", "cell 1 has a sclr and no clk", 31, 1310,
+          reg(d=net(2), sclr=net(3), q=net(4)))
+    fault("v31-sclr-gnd", "cell 1 has sclr at GND and no clk: GND is connected", 31, 1311,
+          reg(d=net(2), sclr=GND, q=net(4)))
+    fault("v32-sload-without-clk", "cell 1 has a sload and no clk", 32, 1320,
+          reg(d=net(2), sload=net(3), sdata=net(5), q=net(4)))
+    fault("v33-sload-without-sdata", "cell 1 has a sload and no sdata", 33, 1330,
+          reg(d=net(2), clk=net(1), sload=net(3), q=net(4)))
+    fault("v33-sload-gnd", "cell 1 has sload at GND and no sdata: GND is connected", 33, 1331,
+          reg(d=net(2), clk=net(1), sload=GND, q=net(4)))
+    fault("v34-ena-without-clk", "cell 1 has an ena and no clk", 34, 1340,
+          reg(d=net(2), ena=net(3), q=net(4)))
+    fault("v35-datain-gnd", "datain of cell 1 is GND", 35, 1350,
+          reg(d=GND, clk=net(1), q=net(4)))
+    fault("v35-datain-inverted", "datain of cell 1 is inverted", 35, 1351,
+          reg(d=inv(2), clk=net(1), q=net(4)))
+    fault("v35-sdata-gnd", "sdata of cell 1 is GND", 35, 1352,
+          reg(d=net(2), clk=net(1), sload=net(3), sdata=GND, q=net(4)))
+    fault("v35-sdata-inverted", "sdata of cell 1 is inverted", 35, 1353,
+          reg(d=net(2), clk=net(1), sload=net(3), sdata=inv(5), q=net(4)))
+    fault("v35-unused-register", "datain of an unused register is inverted", 35, 1354,
+          reg(d=inv(2)))
+
+
+def combinational_samples():
+    """Numbers 40 to 44."""
+    plain = comb(a=net(0), o=net(1))
+    two = ((3, 1, 0), (3, 1, 1))
+    three = two + ((3, 1, 2),)
+    four = three + ((3, 1, 3),)
+
+    def fault(name, why, number, apprentice, cell, places, nets, *cells):
+        start = {1: 33, 2: 57}[cell]
+        sample(name, why, exercise(nets, *cells), answer(apprentice, *places),
+               Expected(number, ("exercise", start, 24), cell=cell, apprentice=apprentice))
+
+    fault("v40-constant", "cin of cell 1 is VCC", 40, 1400, 1, two, 3,
+          plain, comb(a=net(1), cin=VCC, o=net(2), flag=1))
+    fault("v40-inverted", "cin of cell 1 is the inverse of a carry; cell 0 keeps 42",
+          40, 1401, 1, two, 5,
+          comb(a=net(0), o=net(1), cout=net(2)),
+          comb(a=net(3), cin=inv(2), o=net(4), flag=1))
+    fault("v40-undriven", "cin of cell 1 is a net that no cell drives", 40, 1402, 1, two, 4,
+          plain, comb(a=net(1), cin=net(3), o=net(2), flag=1))
+    fault("v40-combout", "cin of cell 1 is a combout", 40, 1403, 1, two, 3,
+          plain, comb(a=net(0), cin=net(1), o=net(2), flag=1))
+    fault("v40-own-cout", "cin of cell 1 is its own cout", 40, 1404, 1, two, 4,
+          plain, comb(a=net(1), cin=net(3), o=net(2), cout=net(3), flag=1))
+    fault("v41-flag", "cell 1 has a cin and flag 0", 41, 1410, 1, two, 5,
+          comb(a=net(0), o=net(1), cout=net(2)),
+          comb(a=net(3), cin=net(2), o=net(4)))
+    fault("v42-unread", "cout of cell 1 is read nowhere", 42, 1420, 1, two, 4,
+          plain, comb(a=net(1), o=net(2), cout=net(3)))
+    fault("v42-read-as-data", "cout of cell 1 is read at a dataa", 42, 1421, 1, three, 5,
+          plain, comb(a=net(1), o=net(2), cout=net(3)), comb(a=net(3), o=net(4)))
+    fault("v42-two-reads", "cout of cell 1 is read at a cin and, inverted, at a dataa",
+          42, 1422, 1, four, 7,
+          plain, comb(a=net(1), o=net(2), cout=net(3)),
+          comb(a=net(4), cin=net(3), o=net(5), flag=1), comb(a=inv(3), o=net(6)))
+    fault("v43-datad-and-cout", "cell 1 has a datad and a cout", 43, 1430, 1, three, 5,
+          plain, comb(a=net(1), d=net(0), o=net(2), cout=net(3)),
+          comb(a=net(0), cin=net(3), o=net(4), flag=1))
+    fault("v43-datad-and-cin", "cell 2 has a datad and a cin", 43, 1431, 2, three, 5,
+          plain, comb(a=net(1), o=net(2), cout=net(3)),
+          comb(a=net(0), d=net(1), cin=net(3), o=net(4), flag=1))
+    fault("v44-datac-and-cin",
+          "cell 2 has a datac and a cin; datac beside the cout of cell 1 is allowed",
+          44, 1440, 2, three, 5,
+          plain, comb(a=net(1), c=net(0), o=net(2), cout=net(3)),
+          comb(a=net(0), c=net(1), cin=net(3), o=net(4), flag=1))
+
+    fault("order-cell-before-number", "cell 1 breaks 44, cell 2 breaks 30: the lower cell first",
+          44, 1445, 1, three, 5,
+          comb(a=net(0), o=net(2), cout=net(3)),
+          comb(a=net(1), c=net(0), cin=net(3), o=net(4), flag=1),
+          reg(d=net(4), clk=net(1)))
+    fault("order-number-in-cell", "cell 1 breaks 41 and 44: the lower number first",
+          41, 1446, 1, two, 5,
+          comb(a=net(0), o=net(2), cout=net(3)),
+          comb(a=net(1), c=net(0), cin=net(3), o=net(4)))
+
+
+def place_samples():
+    """Numbers 50 and 51."""
+    sample("v50-two-registers",
+           "a combinational cell and a register may share LE 4; the second register may not",
+           exercise(5, comb(a=net(0), o=net(1)), reg(d=net(1), clk=net(2), q=net(3)),
+                    reg(d=net(3), clk=net(2), q=net(4))),
+           answer(1500, (6, 1, 4), (6, 1, 4), (6, 1, 4)),
+           Expected(50, ("answer", 19, 4), cell=2, apprentice=1500))
+    sample("v50-before-51", "cell 1 breaks 51, cell 3 breaks 50: 50 is asked of all cells first",
+           exercise(7, comb(a=net(0), o=net(1), cout=net(2)),
+                    comb(a=net(3), cin=net(2), o=net(4), flag=1),
+                    comb(a=net(4), o=net(5)), comb(a=net(5), o=net(6))),
+           answer(1501, (6, 1, 0), (6, 1, 2), (6, 1, 5), (6, 1, 5)),
+           Expected(50, ("answer", 23, 4), cell=3, apprentice=1501))
+
+    chain = exercise(5, comb(a=net(0), o=net(1)), comb(a=net(1), o=net(2), cout=net(3)),
+                     comb(a=net(0), cin=net(3), o=net(4), flag=1))
+    sample("v51-gap", "the chain leaves LE 2 out",
+           chain, answer(1510, (6, 1, 0), (6, 1, 1), (6, 1, 3)),
+           Expected(51, ("answer", 19, 4), cell=2, apprentice=1510))
+    sample("v51-next-lab", "the chain goes on in the LAB at the side",
+           chain, answer(1511, (6, 1, 0), (6, 1, 1), (7, 1, 2)),
+           Expected(51, ("answer", 19, 4), cell=2, apprentice=1511))
+    sample("v51-upward", "after LE 15 the chain goes on at y + 1 in place of y - 1",
+           adder(), answer(1512, (4, 3, 14), (4, 3, 15), (4, 4, 0), (4, 4, 1)),
+           Expected(51, ("answer", 19, 4), cell=2, apprentice=1512))
+
+
+def lab_samples():
+    """Numbers 60 to 65. Cell 0 stands in LAB 3, the others in the LAB at fault."""
+    plain = comb(a=net(3), o=net(4))
+
+    sample("v60-three-clocks", "three clock nets in LAB 33",
+           exercise(8, reg(d=net(3), clk=net(0), q=net(4)), reg(d=net(4), clk=net(0), q=net(5)),
+                    reg(d=net(5), clk=net(1), q=net(6)), reg(d=net(6), clk=net(2), q=net(7))),
+           answer(1600, (3, 0, 0), (1, 1, 0), (1, 1, 1), (1, 1, 2)),
+           Expected(60, ("answer", 15, 4), lab=33, apprentice=1600))
+    sample("v61-one-clock",
+           "one clock with an open ena, which counts as VCC, and two ena nets: three pairs",
+           exercise(8, plain, reg(d=net(4), clk=net(0), q=net(5)),
+                    reg(d=net(5), clk=net(0), ena=net(1), q=net(6)),
+                    reg(d=net(6), clk=net(0), ena=net(2), q=net(7))),
+           answer(1610, (3, 0, 0), (2, 1, 0), (2, 1, 1), (2, 1, 2)),
+           Expected(61, ("answer", 15, 4), lab=34, apprentice=1610))
+    sample("v62-open-clear",
+           "two aclr nets and an open aclr on a used register, which counts as GND: three",
+           exercise(8, plain, reg(d=net(4), clk=net(0), aclr=net(1), q=net(5)),
+                    reg(d=net(5), clk=net(0), aclr=net(2), q=net(6)),
+                    reg(d=net(6), clk=net(0), q=net(7))),
+           answer(1620, (3, 0, 0), (3, 1, 0), (3, 1, 1), (3, 1, 2)),
+           Expected(62, ("answer", 15, 4), lab=35, apprentice=1620))
+    sample("v62-unused-register", "the third aclr net is at an unused register",
+           exercise(8, plain, reg(d=net(4), clk=net(0), aclr=net(1), q=net(5)),
+                    reg(d=net(5), clk=net(0), aclr=net(2), q=net(6)),
+                    reg(d=net(6), aclr=net(7))),
+           answer(1621, (3, 0, 0), (4, 1, 0), (4, 1, 1), (4, 1, 2)),
+           Expected(62, ("answer", 15, 4), lab=36, apprentice=1621))
+    sample("v63-two-sclr", "a sclr net and sclr at VCC",
+           exercise(7, plain, reg(d=net(4), clk=net(0), sclr=net(1), q=net(5)),
+                    reg(d=net(5), clk=net(0), sclr=VCC, q=net(6))),
+           answer(1630, (3, 0, 0), (5, 1, 0), (5, 1, 1)),
+           Expected(63, ("answer", 15, 4), lab=37, apprentice=1630))
+    sample("v63-two-sload", "a sload net and its inverse",
+           exercise(7, plain,
+                    reg(d=net(4), clk=net(0), sload=net(1), sdata=net(2), q=net(5)),
+                    reg(d=net(5), clk=net(0), sload=inv(1), sdata=net(2), q=net(6))),
+           answer(1631, (3, 0, 0), (6, 1, 0), (6, 1, 1)),
+           Expected(63, ("answer", 15, 4), lab=38, apprentice=1631))
+    sample("v64-control-nets", "36 data nets, a datain, a clk and an aclr net: 39",
+           exercise(50, comb(a=net(0), o=net(39)),
+                    *[comb(a=net(4 * i), b=net(4 * i + 1), c=net(4 * i + 2),
+                           d=net(4 * i + 3), o=net(41 + i)) for i in range(9)],
+                    reg(d=net(36), clk=net(37), aclr=net(38), q=net(40))),
+           answer(1640, (3, 0, 0), *[(7, 1, i) for i in range(10)]),
+           Expected(64, ("answer", 15, 4), lab=39, apprentice=1640))
+    sample("v65-constant-clock",
+           "two ena take 2 and 3, two aclr take 1 and 4: sclr and sload both need 5",
+           exercise(11, comb(a=net(7), o=net(8)),
+                    reg(d=net(8), clk=GND, ena=net(0), aclr=net(2), sclr=net(4), sload=net(5),
+                        sdata=net(6), q=net(9)),
+                    reg(d=net(9), clk=GND, ena=net(1), aclr=net(3), q=net(10))),
+           answer(1650, (3, 0, 0), (8, 1, 0), (8, 1, 1)),
+           Expected(65, ("answer", 15, 4), lab=40, apprentice=1650))
+
+    sample("order-lowest-lab", "LAB 40 breaks 60, LAB 35 breaks 62: the lower LAB first",
+           exercise(12,
+                    reg(d=net(5), clk=net(0), q=net(6)), reg(d=net(6), clk=net(1), q=net(7)),
+                    reg(d=net(7), clk=net(2), q=net(8)),
+                    reg(d=net(8), clk=net(0), aclr=net(3), q=net(9)),
+                    reg(d=net(9), clk=net(0), aclr=net(4), q=net(10)),
+                    reg(d=net(10), clk=net(0), q=net(11))),
+           answer(1660, (8, 1, 0), (8, 1, 1), (8, 1, 2), (3, 1, 0), (3, 1, 1), (3, 1, 2)),
+           Expected(62, ("answer", 23, 4), lab=35, apprentice=1660))
+    sample("order-rule-in-lab", "LAB 41 breaks 61 and 62: the lower number first",
+           exercise(10, comb(a=net(5), o=net(6)),
+                    reg(d=net(6), clk=net(0), ena=net(1), aclr=net(3), q=net(7)),
+                    reg(d=net(7), clk=net(0), ena=net(2), aclr=net(4), q=net(8)),
+                    reg(d=net(8), clk=net(0), q=net(9))),
+           answer(1661, (3, 0, 0), (9, 1, 0), (9, 1, 1), (9, 1, 2)),
+           Expected(61, ("answer", 15, 4), lab=41, apprentice=1661))
+
+
+def legal_samples():
+    sample("legal-constants", "all control ports constant: no need, no entry",
+           exercise(1, reg(d=VCC, clk=VCC, ena=VCC, aclr=GND, sclr=VCC, sload=VCC, sdata=VCC,
+                           q=net(0))),
+           answer(501, (10, 1, 0)),
+           legal(501, 15, {42: EMPTY}))
+    sample("legal-one-net-three-roles", "one net at clk, aclr and sclr: three needs",
+           exercise(3, reg(d=net(1), clk=net(0), aclr=net(0), sclr=net(0), q=net(2))),
+           answer(502, (11, 1, 0)),
+           legal(502, 15, {43: [0, F, F, F, 1, F, 4, F]}))
+    sample("legal-open-enable", "an open ena and ena at VCC are one: two pairs with a third",
+           exercise(6, reg(d=net(2), clk=net(0), q=net(3)),
+                    reg(d=net(3), clk=net(0), ena=VCC, q=net(4)),
+                    reg(d=net(4), clk=net(0), ena=net(1), q=net(5))),
+           answer(503, (12, 1, 0), (12, 1, 1), (12, 1, 2)),
+           legal(503, 23, {44: [0, F, 2, F, F, F, F, F]}))
+    sample("legal-sclr-gnd", "a sclr net, sclr at GND and an open sclr: one in use",
+           exercise(6, reg(d=net(2), clk=net(0), sclr=net(1), q=net(3)),
+                    reg(d=net(3), clk=net(0), sclr=GND, q=net(4)),
+                    reg(d=net(4), clk=net(0), q=net(5))),
+           answer(504, (13, 1, 0), (13, 1, 1), (13, 1, 2)),
+           legal(504, 23, {45: [0, F, F, F, F, F, 4, F]}))
+    sample("legal-unused-register", "two aclr nets; the open aclr of an unused register "
+           "does not count",
+           exercise(6, reg(d=net(3), clk=net(0), aclr=net(1), q=net(4)),
+                    reg(d=net(4), clk=net(0), aclr=net(2), q=net(5)),
+                    reg(d=net(5))),
+           answer(505, (14, 1, 0), (14, 1, 1), (14, 1, 2)),
+           legal(505, 23, {46: [0, F, F, F, 1, 4, F, F]}))
+    sample("legal-unused-clear", "the aclr net of an unused register is a need",
+           exercise(2, reg(d=net(0), aclr=net(1))),
+           answer(506, (15, 1, 0)),
+           legal(506, 15, {47: [F, F, F, F, 1, F, F, F]}))
+    sample("legal-net-from-inside", "an ena net driven in its own LAB is a need all the same",
+           exercise(5, comb(a=net(0), o=net(2)), reg(d=net(3), clk=net(1), ena=net(2), q=net(4))),
+           answer(507, (16, 1, 0), (16, 1, 0)),
+           legal(507, 19, {48: [0, F, 2, F, F, F, F, F]}))
+    sample("legal-clock-and-inverse", "a clock and its inverse are two needs",
+           exercise(4, reg(d=net(1), clk=inv(0), q=net(2)), reg(d=net(2), clk=net(0), q=net(3))),
+           answer(508, (17, 1, 0), (17, 1, 1)),
+           legal(508, 19, {49: [0, 1, F, F, F, F, F, F]}))
+    sample("legal-three-labs", "three LABs, each with its own route, listed in rising order",
+           exercise(9,
+                    reg(d=net(4), clk=net(0), ena=net(1), aclr=net(2), q=net(5)),
+                    reg(d=net(5), clk=net(0), sload=net(3), sdata=net(4), q=net(6)),
+                    comb(a=net(6), b=net(7), o=net(8))),
+           answer(509, (4, 3, 0), (18, 1, 0), (5, 0, 0)),
+           legal(509, 23, {5: EMPTY, 50: [0, F, F, F, F, F, F, 3],
+                           100: [0, F, 2, F, 1, F, F, F]}))
+
+
+# ---------------------------------------------------------------- the class
+
+# Nets of the class exercise.
+CLKA, CLKB, RSTA, RSTB, RUN, CLEAR, SERIAL, START = range(8)
+P, K = 8, 14                    # timer presets 8-13, compare values 14-21
+Q, S, C = 22, 30, 38            # counter: outputs 22-29, sums 30-37, carries 38-44
+T, TS, TC = 45, 51, 57          # timer: outputs 45-50, sums 51-56, carries 57-61
+R, O = 62, 70                   # shift registers: inward 62-69, outward 70-77
+E = 78                          # comparison 78-81
+FULL, TZLO, TZERO, MATCH, SHIFT, LOAD = range(82, 88)
+ST, NS = 88, 91                 # state 88-90, next state 91-93
+Y = 94                          # synchroniser 94, 95
+
+
+def class_exercise():
+    """62 cells, 96 nets.
+
+    Cells 0-7 and 8-15: a counter of eight bits, carry chain and registers (clock A, ena run,
+    aclr reset A, sclr clear). 16-21 and 22-27: a timer of six bits, carry chain and registers
+    that load a preset (clock A, aclr reset A, sload). 28-35: a shift register inward (clock B,
+    ena, aclr reset B). 36-43: a shift register outward that loads the counter (clock B
+    inverted, aclr reset B, sload). 44-53: comparison and control signals. 54-56 and 57-59:
+    next state and state. 60, 61: a synchroniser without aclr.
+    """
+    cells = []
+    for i in range(8):
+        cells.append(comb(a=net(Q + i), cin=net(C + i - 1) if i > 0 else OPEN, o=net(S + i),
+                          cout=net(C + i) if i < 7 else OPEN, flag=1 if i > 0 else 0))
+    for i in range(8):
+        cells.append(reg(d=net(S + i), clk=net(CLKA), ena=net(RUN), aclr=net(RSTA),
+                         sclr=net(CLEAR), q=net(Q + i)))
+    for i in range(6):
+        cells.append(comb(a=net(T + i), cin=net(TC + i - 1) if i > 0 else OPEN, o=net(TS + i),
+                          cout=net(TC + i) if i < 5 else OPEN, flag=1 if i > 0 else 0))
+    for i in range(6):
+        cells.append(reg(d=net(TS + i), clk=net(CLKA), aclr=net(RSTA), sload=net(TZERO),
+                         sdata=net(P + i), q=net(T + i)))
+    for i in range(8):
+        cells.append(reg(d=net(R + i - 1) if i > 0 else net(SERIAL), clk=net(CLKB),
+                         ena=net(SHIFT), aclr=net(RSTB), q=net(R + i)))
+    for i in range(8):
+        cells.append(reg(d=net(O + i - 1) if i > 0 else VCC, clk=inv(CLKB), aclr=net(RSTB),
+                         sload=net(LOAD), sdata=net(Q + i), q=net(O + i)))
+    for i in range(4):
+        cells.append(comb(a=net(Q + 2 * i), b=net(K + 2 * i), c=net(Q + 2 * i + 1),
+                          d=net(K + 2 * i + 1), o=net(E + i)))
+    cells += [
+        comb(a=net(E), b=net(E + 1), c=net(E + 2), d=net(E + 3), o=net(FULL)),
+        comb(a=net(T), b=net(T + 1), c=net(T + 2), d=net(T + 3), o=net(TZLO)),
+        comb(a=net(TZLO), b=net(T + 4), c=net(T + 5), o=net(TZERO)),
+        comb(a=net(R), b=inv(R + 7), c=net(FULL), o=net(MATCH)),
+        comb(a=net(ST), b=net(ST + 1), o=net(SHIFT)),
+        comb(a=net(ST + 2), b=net(FULL), o=net(LOAD)),
+        comb(a=net(ST), b=net(Y + 1), c=net(TZERO), o=net(NS)),
+        comb(a=net(ST), b=net(ST + 1), c=net(MATCH), o=net(NS + 1)),
+        comb(a=net(ST + 1), b=net(ST + 2), c=net(FULL), d=net(TZERO), o=net(NS + 2)),
+    ]
+    for i in range(3):
+        cells.append(reg(d=net(NS + i), clk=net(CLKA), aclr=net(RSTA), q=net(ST + i)))
+    cells.append(reg(d=net(START), clk=net(CLKA), q=net(Y)))
+    cells.append(reg(d=net(Y), clk=net(CLKA), q=net(Y + 1)))
+    return exercise(96, *cells)
+
+
+def tidy():
+    """One LAB a block: the places that most answers start from, as cell -> (x, y, LE)."""
+    places = {}
+    put(places, 0, 8, 10, 5, 0)         # counter carry chain, LAB 170
+    put(places, 8, 8, 10, 5, 0)         # counter registers
+    put(places, 16, 6, 11, 5, 0)        # timer carry chain, LAB 171
+    put(places, 22, 6, 11, 5, 0)        # timer registers
+    put(places, 28, 8, 10, 6, 0)        # shift register inward, LAB 202
+    put(places, 36, 8, 11, 6, 0)        # shift register outward, LAB 203
+    put(places, 44, 10, 12, 5, 0)       # comparison and control signals, LAB 172
+    put(places, 54, 3, 12, 5, 10)       # next state
+    put(places, 57, 3, 12, 5, 10)       # state
+    put(places, 60, 2, 12, 5, 13)       # synchroniser
+    return places
+
+
+def dense():
+    """Three LABs: counter and timer, both shift registers, the rest."""
+    places = {}
+    put(places, 0, 8, 0, 0, 0)
+    put(places, 8, 8, 0, 0, 0)
+    put(places, 16, 6, 0, 0, 8)
+    put(places, 22, 6, 0, 0, 8)
+    put(places, 28, 8, 0, 1, 0)
+    put(places, 36, 8, 0, 1, 8)
+    put(places, 44, 10, 1, 0, 0)
+    put(places, 54, 3, 1, 0, 10)
+    put(places, 57, 3, 1, 0, 10)
+    put(places, 60, 2, 1, 0, 13)
+    return places
+
+
+def put(places, first, count, x, y, le):
+    """Cells first, first + 1, ... in one LAB, rising LE."""
+    for i in range(count):
+        places[first + i] = (x, y, le + i)
+
+
+def class_answer(apprentice, places, cells=62):
+    return answer(apprentice, *[places[i] for i in range(cells)])
+
+
+# Routes of the blocks when each has a LAB of its own.
+COUNTER = [0, F, 2, F, 1, F, 4, F]      # clk A, ena run, aclr A, sclr clear
+TIMER = [0, F, F, F, 1, F, F, 3]        # clk A, aclr A, sload
+INWARD = [0, F, 2, F, 1, F, F, F]       # clk B, ena, aclr B
+OUTWARD = [0, F, F, F, 1, F, F, 3]      # clk B inverted, aclr B, sload
+STATE = [0, F, F, F, 1, F, F, F]        # clk A, aclr A
+SYNC = [0, F, F, F, F, F, F, F]         # clk A
+
+
+def class_answers():
+    """The eighteen answers: (why, sheet, expected)."""
+    out = []
+
+    def hand_in(why, sheet, expected):
+        out.append((why, sheet, expected))
+
+    p = tidy()
+    hand_in("one LAB a block", class_answer(101, p),
+            legal(101, 259, {170: COUNTER, 171: TIMER, 172: STATE, 202: INWARD, 203: OUTWARD}))
+
+    p = dense()
+    hand_in("three full LABs, LAB 0 among them", class_answer(102, p),
+            legal(102, 259, {0: [0, F, 2, F, 1, F, 4, 3], 1: STATE,
+                             32: [0, 1, 2, F, 4, F, F, 3]}))
+
+    p = dense()
+    put(p, 22, 6, 0, 0, 7)
+    hand_in("the timer registers begin in LE 7, where the last counter register stands",
+            class_answer(103, p), Expected(50, ("answer", 99, 4), cell=22, apprentice=103))
+
+    p = tidy()
+    for first in (0, 8):
+        put(p, first, 4, 10, 5, 12)
+        put(p, first + 4, 4, 10, 6, 0)
+    put(p, 28, 8, 10, 7, 0)
+    hand_in("the counter chain goes on at y + 1 after LE 15", class_answer(104, p),
+            Expected(51, ("answer", 27, 4), cell=4, apprentice=104))
+
+    p = tidy()
+    for first in (0, 8):
+        put(p, first, 4, 10, 5, 12)
+        put(p, first + 4, 4, 10, 4, 0)
+    hand_in("the counter chain goes on at y - 1 after LE 15", class_answer(105, p),
+            legal(105, 259, {138: COUNTER, 170: COUNTER, 171: TIMER, 172: STATE, 202: INWARD,
+                             203: OUTWARD}))
+
+    p = {cell: (x, y, le + 1) for cell, (x, y, le) in dense().items()}
+    hand_in("logic elements counted from 1 to 16", class_answer(106, p),
+            Expected(26, ("answer", 183, 4), cell=43, apprentice=106))
+
+    p = tidy()
+    hand_in("the last cell forgotten", class_answer(107, p, cells=61),
+            Expected(24, ("answer", 0, 11), apprentice=107))
+
+    hand_in("the last byte missing", class_answer(108, p)[:-1],
+            Expected(25, ("answer", 0, 11), apprentice=108))
+
+    p = tidy()
+    put(p, 36, 6, 10, 6, 8)
+    put(p, 60, 2, 10, 6, 14)
+    hand_in("clocks A, B and the inverse of B in LAB 202", class_answer(109, p),
+            Expected(60, ("answer", 123, 4), lab=202, apprentice=109))
+
+    p = tidy()
+    put(p, 8, 8, 11, 5, 6)
+    put(p, 28, 2, 11, 5, 14)
+    hand_in("timer, counter and two inward registers in LAB 171: two clocks, three pairs",
+            class_answer(110, p), Expected(61, ("answer", 43, 4), lab=171, apprentice=110))
+
+    p = tidy()
+    put(p, 28, 8, 12, 5, 0)
+    hand_in("reset A, reset B and no reset in LAB 172", class_answer(111, p),
+            Expected(62, ("answer", 123, 4), lab=172, apprentice=111))
+
+    p = tidy()
+    put(p, 36, 8, 11, 5, 6)
+    hand_in("two sload signals in LAB 171", class_answer(112, p),
+            Expected(63, ("answer", 75, 4), lab=171, apprentice=112))
+
+    p = tidy()
+    put(p, 22, 6, 20, 8, 0)
+    put(p, 44, 4, 20, 8, 0)
+    put(p, 51, 4, 20, 8, 4)
+    put(p, 60, 1, 20, 8, 6)
+    hand_in("39 nets read by LAB 276", class_answer(113, p),
+            Expected(64, ("answer", 99, 4), lab=276, apprentice=113))
+
+    put(p, 60, 1, 12, 5, 13)
+    hand_in("the same without the synchroniser in LAB 276: 38 nets", class_answer(114, p),
+            legal(114, 259, {170: COUNTER, 171: EMPTY, 172: STATE, 202: INWARD, 203: OUTWARD,
+                             276: TIMER}))
+
+    p = tidy()
+    put(p, 8, 8, 10, 6, 8)
+    hand_in("counter and inward registers in LAB 202: two clk, two ena, two aclr, sclr",
+            class_answer(115, p), Expected(65, ("answer", 43, 4), lab=202, apprentice=115))
+
+    p = tidy()
+    put(p, 28, 8, 11, 5, 6)
+    hand_in("timer and inward registers in LAB 171: all six entries in use",
+            class_answer(116, p),
+            legal(116, 259, {170: COUNTER, 171: [0, 2, 3, F, 1, 4, F, 5], 172: STATE,
+                             203: OUTWARD}))
+
+    hand_in("the exercise sheet handed back", class_exercise(),
+            Expected(21, ("answer", 0, 11)))
+
+    p = {}
+    put(p, 0, 4, 3, 31, 12)
+    put(p, 4, 4, 3, 30, 0)
+    put(p, 16, 3, 5, 31, 13)
+    put(p, 19, 3, 5, 30, 0)
+    for i in range(8):
+        p[8 + i] = (i, 20, 0)
+        p[28 + i] = (16 + i, 20, i)
+        p[36 + i] = (24 + i, 20, 15 - i)
+    for i in range(6):
+        p[22 + i] = (8 + i, 20, 0)
+    for i in range(13):
+        p[44 + i] = (i, 0, i)
+    for i in range(3):
+        p[57 + i] = (13 + i, 0, 0)
+    p[60], p[61] = (31, 31, 0), (31, 31, 15)
+    routes = {963: EMPTY, 965: EMPTY, 995: EMPTY, 997: EMPTY, 1023: SYNC}
+    routes.update({lab: EMPTY for lab in range(0, 13)})
+    routes.update({lab: STATE for lab in range(13, 16)})
+    routes.update({lab: COUNTER for lab in range(640, 648)})
+    routes.update({lab: TIMER for lab in range(648, 654)})
+    routes.update({lab: INWARD for lab in range(656, 664)})
+    routes.update({lab: OUTWARD for lab in range(664, 672)})
+    hand_in("spread over 51 LABs, LAB 1023 among them", class_answer(118, p),
+            legal(118, 259, routes))
+    return out
+
+
+def all_samples():
+    if not SAMPLES:
+        settled_samples()
+        edge_samples()
+        slip_samples()
+        carry_samples()
+        exercise_sheet_samples()
+        answer_sheet_samples()
+        register_samples()
+        combinational_samples()
+        place_samples()
+        lab_samples()
+        legal_samples()
+    return SAMPLES
+
+
+# ---------------------------------------------------------------- commands
+
+def write(folder, name, data):
+    """Write a file; None removes it."""
+    path = os.path.join(folder, name)
+    if data is None:
+        if os.path.exists(path):
+            os.remove(path)
+        return
+    with open(path, "wb") as file:
+        file.write(data if isinstance(data, bytes) else data.encode("ascii"))
+
+
+def make(root):
+    for name, _, ex, an, expected in all_samples():
+        folder = os.path.join(root, name)
+        os.makedirs(folder, exist_ok=True)
+        write(folder, "exercise.lxe", ex)
+        write(folder, "answer.lxa", an)
+        write(folder, "words.txt", words(ex, an))
+        write(folder, "expected.txt", expected.expected_lines())
+        write(folder, "listing.txt", expected.listing())
+
+    folder = os.path.join(root, "class")
+    os.makedirs(folder, exist_ok=True)
+    ex = class_exercise()
+    write(folder, "exercise.lxe", ex)
+    lines, culprits = "", ""
+    for i, (_, sheet, expected) in enumerate(class_answers()):
+        name = "answer-%02d" % (i + 1)
+        write(folder, name + ".lxa", sheet)
+        write(folder, name + ".words.txt", words(ex, sheet))
+        write(folder, name + ".listing.txt", expected.listing())
+        write(folder, name + ".route", expected.route_lines() if expected.number == 0 else None)
+        lines += "%s number %d cell %d lab %d apprentice %d\n" % (
+            name, expected.number, expected.cell, expected.lab, expected.apprentice)
+        culprits += "%s culprit %s %d %d\n" % ((name,) + expected.culprit)
+    write(folder, "expected.txt", lines)
+    write(folder, "culprits.txt", culprits)
+
+
+def list_samples():
+    lines = ["- `%s` (%d): %s" % (name, expected.number, why)
+             for name, why, _, _, expected in all_samples()]
+    lines += ["- `class/answer-%02d` (%d): %s" % (i + 1, expected.number, why)
+              for i, (why, _, expected) in enumerate(class_answers())]
+    return "\n".join(lines) + "\n"
+
+
+def read_sheet(path):
+    """The bytes of a file, or None where it cannot be read."""
+    try:
+        with open(path, "rb") as file:
+            return file.read()
+    except OSError:
+        return None
+
+
+def main(args):
+    here = os.path.dirname(os.path.abspath(__file__))
+    if args == ["make"]:
+        make(os.path.join(os.path.dirname(here), "samples"))
+    elif args == ["list"]:
+        sys.stdout.write(list_samples())
+    elif len(args) == 3 and args[0] == "words":
+        sys.stdout.write(words(read_sheet(args[1]), read_sheet(args[2])))
+    else:
+        sys.stderr.write(__doc__)
+        return 2
+    return 0
+
+
+if __name__ == "__main__":
+    sys.exit(main(sys.argv[1:]))
