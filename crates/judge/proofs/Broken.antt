@@ -10,8 +10,9 @@ use borrow.Author.Tests.{ne-eqb, lt-ltb, le-ltb}
 use Rattle.sheet.specs.Lists.{concatMap, from, below, firstFrom}
 use Rattle.sheet.specs.Checks as sheet
 use Rattle.sheet.proofs.Laws.{by-test}
+use Rattle.netlist.specs.Tables.{NONE}
 use Rattle.judge.specs.declared.Finding.{Finding}
-use Rattle.judge.specs.Judge.{Check, NONE, finding, legal, ofSheet, ofCell, ofLab, perCell, firstBroken}
+use Rattle.judge.specs.Judge.{Check, finding, legal, ofSheet, ofCell, ofLab, perCell, firstBroken}
 use Rattle.judge.specs.Demands.{AllHold}
 
 -- P holds of every element

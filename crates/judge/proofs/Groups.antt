@@ -13,8 +13,9 @@ use Rattle.sheet.specs.Answer.{answerChecks, answerNumber, placeCount, wrongAns
 use Rattle.sheet.proofs.Laws.{by-test}
 use Rattle.netlist.specs.Cells.{cellNumbers, malformed, doubleDriver, cellChecks, cellNumber}
 use Rattle.placing.specs.Places.{outOfRangeAt, placeTaken}
+use Rattle.netlist.specs.Tables.{NONE}
 use Rattle.judge.specs.declared.Finding.{Finding}
-use Rattle.judge.specs.Judge.{Check, NONE, finding, check, ofSheet, perCell, carryNotNext, roomChecks, exerciseGroup, answerGroup, cellGroup, placeGroup, checksTo51, firstBroken}
+use Rattle.judge.specs.Judge.{Check, finding, check, ofSheet, perCell, carryNotNext, roomChecks, exerciseGroup, answerGroup, cellGroup, placeGroup, checksTo51, firstBroken}
 use Rattle.judge.specs.Stages.{numbered, atCell}
 use borrow.Author.Needs.{needs}
 use Rattle.judge.proofs.Broken.{Every, first-append, sheet-finds, run-finds, cells-find}

@@ -20,7 +20,8 @@ use Rattle.labs.specs.Results.{resultAt, routeByte, rowFrom}
 use Rattle.labs.proofs.Linked.{walk-members}
 use Rattle.labs.proofs.Labs.{result-is-lab}
 use Rattle.labs.proofs.Rows.{rows-are, bytes-eight}
-use Rattle.judge.specs.Judge.{NONE, labCells, labGroup, firstBroken}
+use Rattle.netlist.specs.Tables.{NONE}
+use Rattle.judge.specs.Judge.{labCells, labGroup, firstBroken}
 use Rattle.judge.specs.Stages.{numberedLab}
 use Rattle.judge.proofs.Broken.{labs-find}
 use Rattle.judge.proofs.Numbers.{lab-numbered}

@@ -23,8 +23,9 @@ use Rattle.lab.specs.Ports.{inLab}
 use Rattle.lab.specs.Rules.{needs, isNone, noWay, labRules, labChecks}
 use Rattle.placing.specs.Places.{labAt, outOfRangeAt}
 use Rattle.labs.specs.Members.{members}
+use Rattle.netlist.specs.Tables.{NONE}
 use Rattle.judge.specs.declared.Finding.{Finding}
-use Rattle.judge.specs.Judge.{Check, NONE, finding, perCell, ofLab, labCells, roomChecks, exerciseGroup, answerGroup, labGroup, checksTo51, checks, firstBroken, judged, verdictOf}
+use Rattle.judge.specs.Judge.{Check, finding, perCell, ofLab, labCells, roomChecks, exerciseGroup, answerGroup, labGroup, checksTo51, checks, firstBroken, judged, verdictOf}
 use Rattle.judge.specs.Demands.{AllHold, FourThings, Keeps60to64, Keeps65, labNeeds}
 use Rattle.judge.proofs.Broken.{Every, Numbered, NumberedIn, found, skip-held, hold-append, first-append, legal-hold, breaksOne, labs-find}
 use Rattle.judge.proofs.Numbers.{Known, To51, every-weaker, known-numbered, rules-known, lab-numbered, to-51-known}

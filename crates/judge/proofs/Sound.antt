@@ -16,12 +16,12 @@ use Rattle.sheet.specs.declared.Record.{Record}
 use Rattle.sheet.specs.declared.Record.the-variants.{Combinational, Register, Malformed}
 use Rattle.sheet.proofs.Laws.{by-test}
 use Rattle.netlist.specs.Cells.{cell, malformed, doubleDriver, cellNumber}
-use Rattle.netlist.specs.Tables.{cellFor, numberAt}
+use Rattle.netlist.specs.Tables.{NONE, cellFor, numberAt}
 use Rattle.netlist.proofs.Below.{or-parts}
 use Rattle.netlist.proofs.Carry.{fed-by, number-is, reads, readers, drivers}
 use Rattle.placing.specs.Places.{follows, detachedBy, detachedAt}
 use Rattle.judge.specs.declared.Finding.{Finding}
-use Rattle.judge.specs.Judge.{NONE, finding, legal, standsApart, carryNotNext, exerciseGroup, cellGroup, placeGroup, firstBroken}
+use Rattle.judge.specs.Judge.{finding, legal, standsApart, carryNotNext, exerciseGroup, cellGroup, placeGroup, firstBroken}
 use Rattle.judge.specs.Stages.{numbered, atCell, placedBy}
 use Rattle.judge.proofs.Groups.{then, exercise-finds, cells-finds, places-finds}
 

@@ -16,7 +16,7 @@ use Rattle.lab.specs.Rules.{routeOf}
 use Rattle.sheet.proofs.Laws.{by-test, passes, stops}
 use Rattle.lab.specs.Counts.{AllFit}
 use Rattle.netlist.specs.Cells.{cell, malformed, doubleDriver, cellNumber}
-use Rattle.netlist.specs.Tables.{malformedAt, doubleFrom, readsBelow, readersBelow, driversBelow, numberBy, numberAt, brokenAt}
+use Rattle.netlist.specs.Tables.{NONE, malformedAt, doubleFrom, readsBelow, readersBelow, driversBelow, numberBy, numberAt, brokenAt}
 use Rattle.netlist.proofs.Double.{double-is}
 use Rattle.placing.specs.Places.{labAt, outOfRangeAt, placeTaken, detachedAt}
 use Rattle.labs.specs.Members.{members}
@@ -27,7 +27,7 @@ use Rattle.sheet.specs.declared.Record.{Record}
 use Rattle.judge.specs.declared.Finding.{Finding}
 use Rattle.judge.specs.declared.Part.{Part}
 use Rattle.judge.specs.declared.Verdict.{Verdict}
-use Rattle.judge.specs.Judge.{NONE, finding, legal, ofAnswer, exerciseGroup, answerGroup, cellGroup, placeGroup, labGroup, checksTo51, checks, labCells, firstBroken, firstOr, lowestIn, verdictOf, judged, bytesOf, routed}
+use Rattle.judge.specs.Judge.{finding, legal, ofAnswer, exerciseGroup, answerGroup, cellGroup, placeGroup, labGroup, checksTo51, checks, labCells, firstBroken, firstOr, lowestIn, verdictOf, judged, bytesOf, routed}
 use Rattle.judge.specs.Stages.{numbered, numberedLab, placedBy, numbersOf}
 use Rattle.judge.proofs.Broken.{first-append}
 use Rattle.judge.proofs.Numbers.{known-numbered, to-51-known}

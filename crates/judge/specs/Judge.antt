@@ -15,17 +15,14 @@ use Rattle.sheet.specs.declared.Record.the-variants.{Combinational, Register, M
 use Rattle.route.specs.Table.{Table}
 use Rattle.lab.specs.Rules.{labRules, labChecks, routeOf}
 use Rattle.netlist.specs.Cells.{cell, cellNumbers, malformed, doubleDriver, feeds, cellChecks}
+use Rattle.netlist.specs.Tables.{NONE}
 use Rattle.placing.specs.Places.{labAt, outOfRangeAt, placeTaken, follows}
 use Rattle.labs.specs.Members.{members}
 use Rattle.judge.specs.declared.Finding.{Finding}
 use Rattle.judge.specs.declared.Part.{Part}
 use Rattle.judge.specs.declared.Verdict.{Verdict}
 
--- "65,535 where there is none"
-abbrev pub NONE : ℕ
-NONE = 65535
-
--- what a verdict says first: the number, the cell, the LAB
+-- what a verdict says first: the number, the cell, the LAB, NONE ("65,535") "where there is none"
 abbrev pub finding : ℕ → ℕ → ℕ → Finding
 finding n i l = record { number = n; cell = i; lab = l }
 

@@ -5,9 +5,10 @@ use mathlib.Core.List.{List, [], _∷_}
 use lib.Dec.{eqb, ltb}
 use Rattle.sheet.specs.Lists.{firstFrom}
 use Rattle.placing.specs.Places.{placeTaken, detachedAt}
+use Rattle.netlist.specs.Tables.{NONE}
 use Rattle.judge.specs.declared.Finding.{Finding}
 use Rattle.judge.specs.declared.Verdict.{Verdict}
-use Rattle.judge.specs.Judge.{NONE, finding, legal}
+use Rattle.judge.specs.Judge.{finding, legal}
 
 -- the first cell below n that g gives a number, with that number
 unfoldable pub numbered : (ℕ → ℕ) → ℕ → Finding

@@ -1,3 +1,4 @@
+pub use netlist::NONE;
 use sheet::CellNumber;
 ghost use mathlib.Core.Path.{_≡_};
 ghost use mathlib.Core.Bool.{cond};
@@ -10,13 +11,10 @@ ghost use Rattle.sheet.specs.Exercise.{recordStart};
 ghost use Rattle.sheet.specs.Answer.{placeStart};
 ghost use Rattle.route.specs.Table.{houseBoard};
 ghost use Rattle.lab.specs.Rules.{routeOf};
-ghost use Rattle.judge.specs.Judge.{NONE, finding, legal, ofExercise, ofAnswer, exerciseGroup, answerGroup, cellGroup, placeGroup, labGroup, checksTo51, labCells, firstBroken, apprenticeOf, lowestIn, culpritOf, verdictOf, judged, bytesOf, routed};
+ghost use Rattle.judge.specs.Judge.{finding, legal, ofExercise, ofAnswer, exerciseGroup, answerGroup, cellGroup, placeGroup, labGroup, checksTo51, labCells, firstBroken, apprenticeOf, lowestIn, culpritOf, verdictOf, judged, bytesOf, routed};
 ghost use Rattle.judge.specs.Stages.{numbered, numberedLab, placedBy, numbersOf};
-ghost use Rattle.netlist.specs.Tables.{numberAt};
+ghost use Rattle.netlist.specs.Tables.{NONE, numberAt};
 ghost use Rattle.labs.specs.Results.{resultAt};
-
-// No cell, or no LAB.
-pub const NONE: u16 = 65535;
 
 // The route buffer's length: eight bytes for each of 1,024 LABs.
 pub const ROUTE_SIZE: usize = 8192;
@@ -154,8 +152,8 @@ fn cells_finding(exercise: &[u8], answer: &[u8]) -> Finding
     let nets = sheet::net_count(exercise);
     let cells = sheet::cell_count(exercise);
     let mut reads = [0u8; 1024];
-    let mut readers = [65535u16; 1024];
-    let mut drivers = [65535u16; 1024];
+    let mut readers = [NONE; 1024];
+    let mut drivers = [NONE; 1024];
     netlist::fill_tables(
         exercise,
         nets,
@@ -219,8 +217,8 @@ fn judge_labs(table: [[bool; 5]; 6], exercise: &[u8], answer: &[u8], route: &mut
 {
     let nets = sheet::net_count(exercise);
     let cells = sheet::cell_count(exercise);
-    let mut first = [65535u16; 1024];
-    let mut next = [65535u16; 512];
+    let mut first = [NONE; 1024];
+    let mut next = [NONE; 512];
     labs::link_cells(answer, cells, &mut first, &mut next);
     let found = lab_finding(table, exercise, nets, &first, &next);
     if found.number != 0 {

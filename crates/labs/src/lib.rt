@@ -49,7 +49,7 @@ fn entry(table: &[u16], i: usize) -> u16
     if i < table.len() {
         return table[i];
     }
-    65535
+    netlist::NONE
 }
 
 // The result of the LAB whose list begins with a cell.

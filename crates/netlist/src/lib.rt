@@ -236,7 +236,7 @@ pub fn register_number(cell: RegisterCell) -> u8
 }
 
 // The cell that a table has at the net of a signal.
-fn cell_for(table: &[u16], signal: Signal) -> u16
+pub fn cell_for(table: &[u16], signal: Signal) -> u16
     ensures { λ r. ⌜ r ≡ cellFor (now (table .entry)) (signal .0) ⌝ }
 {
     let net = signal.net() as usize;

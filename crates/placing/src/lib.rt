@@ -1,7 +1,6 @@
 use sheet::CellNumber;
 use sheet::Placed;
 use sheet::Record;
-use sheet::Signal;
 ghost use mathlib.Core.Path.{_≡_};
 ghost use mathlib.Core.Bool.{true};
 ghost use Prim.Native.Nat.{_+_, _*_, _<_};
@@ -16,9 +15,6 @@ ghost use Rattle.netlist.specs.Tables.{cellFor};
 const LABS: u16 = 1024;
 
 const LES: u8 = 16;
-
-// In a table by net: no cell.
-const NO_CELL: u16 = 65535;
 
 // 26: the lowest cell whose place is out of range, or the number of cells.
 pub fn first_out_of_range(answer: &[u8], cells: u16) -> u16
@@ -182,18 +178,6 @@ fn follows(answer: &[u8], j: u16, i: u16) -> bool
     column & (next & same)
 }
 
-// The cell that a table has for the net of a signal, and none past the table.
-fn cell_for(table: &[u16], signal: Signal) -> u16
-    ensures { λ r. ⌜ r ≡ cellFor (now (table .entry)) (signal .0) ⌝ }
-{
-    let net = signal.net() as usize;
-    if net < table.len() {
-        table[net]
-    } else {
-        NO_CELL
-    }
-}
-
 // Whether a cell with this record is fed by a cout and does not stand where the carry goes on.
 fn is_detached(drivers: &[u16], answer: &[u8], i: u16, cell: Record) -> bool
     ensures { λ r. ⌜ r ≡ detachedBy (now (drivers .entry)) (now (answer .entry)) i cell ⌝ }
@@ -201,8 +185,8 @@ fn is_detached(drivers: &[u16], answer: &[u8], i: u16, cell: Record) -> bool
     let Record::Combinational(cell) = cell else {
         return false;
     };
-    let driver = cell_for(drivers, cell.cin);
-    let driven = driver != NO_CELL;
+    let driver = netlist::cell_for(drivers, cell.cin);
+    let driven = driver != netlist::NONE;
     let fed = cell.cin.is_net() & !cell.cin.is_inverted() & driven;
     fed & !follows(answer, driver, i)
 }

@@ -1,0 +1,177 @@
+-- The records of a list, taken one by one, give the verdict of the list: 18, or what the rules of a LAB say of its cells.
+-- Assumes nothing.
+use Prim.Native.Nat.{ℕ, suc, _<_}
+use mathlib.Core.Path.{_≡_, refl, sym, _∙_}
+use mathlib.Core.Bool.{Bool, true, false, cond, not, _&&_, _||_, true≢false}
+use mathlib.Core.List.{List, [], _∷_, _++_, map}
+use native.Mathlib.Omega.{arith}
+use lib.ListN.{length, replicate}
+use lib.Dec.{eqb, ltb}
+use borrow.Author.Tests.{eqb-true, leb-false, not-false}
+use Rattle.sheet.specs.Lists.{anyb, elemb}
+use Rattle.sheet.specs.Checks.{firstNumber}
+use Rattle.sheet.specs.Signal.{connected, isNet, isBad, isBadOutput}
+use Rattle.sheet.specs.declared.RegisterCell.{RegisterCell}
+use Rattle.sheet.specs.declared.Record.{Record}
+use Rattle.sheet.specs.declared.Record.the-variants.{Combinational, Register, Malformed}
+use Rattle.sheet.proofs.Laws.{by-test}
+use Rattle.distinct.specs.Nets.{markAll, readMarks}
+use Rattle.route.specs.Table.{Table}
+use Rattle.route.specs.Search.{searchFrom}
+use Rattle.route.specs.Route.{firstWay, eightBytes, labRouteOf}
+use Rattle.lab.specs.Ports.{clk, ena, inputs, inLab, netsIn}
+use Rattle.lab.specs.Rules.{tooManyClocks, tooManyPairs, tooManyClears, tooManySynchronous, tooManyNets, needs, noWay, routeOf, labNumber, labResult}
+use Rattle.lab.specs.Counts.{noCounts, countsAll, markCells, refused, resultFrom, Fit, AllFit}
+use Rattle.lab.proofs.Folded.{counts-are, marks-cons, nets-are}
+use Rattle.lab.proofs.Result.{result-is}
+use Rattle.netlist.specs.Cells.{allInputs, clockWithoutOutput, clearWithoutClock, loadWithoutClock, loadWithoutData, enableWithoutClock, registerChecks}
+use Rattle.netlist.proofs.Below.{or-parts}
+use Rattle.netlist.proofs.Decoded.{inputs-good, outputs-good, good-net, good-output}
+use Rattle.lab_list.specs.declared.CellRecord.{CellRecord}
+use Rattle.lab_list.specs.declared.ListState.{ListState}
+use Rattle.lab_list.specs.ListCheck.{bytesOf, recordFrom, unfit, noList, listNumber, listVerdict, noState, stateWith, stateAll, finished}
+
+-- ---- what is kept
+and-true : (a : Bool) → a ≡ (a && true)
+and-true true = refl
+and-true false = refl
+
+and-not : (a u v : Bool) → ((a && not u) && not v) ≡ (a && not (u || v))
+and-not true true v = refl
+and-not true false v = refl
+and-not false u v = refl
+
+fit-all : (s : ListState) (cs : List CellRecord) → stateAll s cs .fit ≡ (s .fit && not (anyb unfit (map recordFrom cs)))
+unfolding stateAll stateWith
+fit-all s [] = and-true (s .fit)
+fit-all s (c ∷ cs) = fit-all (stateWith s c) cs ∙ and-not (s .fit) (unfit (recordFrom c)) (anyb unfit (map recordFrom cs))
+
+counts-all : (s : ListState) (cs : List CellRecord) → stateAll s cs .counts ≡ countsAll (s .counts) (map recordFrom cs)
+unfolding stateAll stateWith countsAll
+counts-all s [] = refl
+counts-all s (c ∷ cs) = counts-all (stateWith s c) cs
+
+marks-none : (m : List ℕ) → m ≡ markCells m []
+unfolding markCells markAll
+marks-none m = refl
+
+marks-all : (s : ListState) (cs : List CellRecord) → stateAll s cs .marks ≡ markCells (s .marks) (map recordFrom cs)
+unfolding stateAll stateWith
+marks-all s [] = marks-none (s .marks)
+marks-all s (c ∷ cs) = marks-all (stateWith s c) cs ∙ sym (marks-cons (s .marks) (recordFrom c) (map recordFrom cs))
+
+-- ---- fit records
+small-input : (s : ℕ) → isBad 1024 s ≡ false → s < 2052
+small-input s h = by-test (isNet s) (λ n. omega (arith, good-net 1024 s h n)) (λ n. omega (arith, leb-false 4 s n))
+
+small-output : (s : ℕ) → isBadOutput 1024 s ≡ false → s < 2052
+small-output s h =
+    by-test (eqb s 0) (λ q. omega (arith, eqb-true s 0 q)) (λ q. omega (arith, good-output 1024 s h (rw q) .2))
+
+elem-more : (s : ℕ) (xs ys : List ℕ) → elemb s xs ≡ true → elemb s (xs ++ ys) ≡ true
+elem-more s [] ys m = absurd (true≢false (sym m))
+elem-more s (x ∷ xs) ys m = by-test (eqb s x) (λ e. rw e) (λ e. rw e (elem-more s xs ys (rw e at m)))
+
+-- the inputs without cin are inputs
+input-of-all : (s : ℕ) (c : Record) → elemb s (inputs c) ≡ true → elemb s (allInputs c) ≡ true
+unfolding inputs allInputs
+input-of-all s (Combinational c) m = elem-more s (inputs (Combinational c)) (c .cin .0 ∷ []) m
+input-of-all s (Register r) m = m
+input-of-all s Malformed m = m
+
+passed : (b : Bool) (n later : ℕ) → cond b (suc n) later ≡ 0 → (b ≡ false) × (later ≡ 0)
+passed true n later h = absurd (omega arith)
+passed false n later h = (refl, h)
+
+-- 34
+enable-clocked : (r : RegisterCell) → firstNumber (registerChecks r) ≡ 0 → connected (ena r) ≡ true → connected (clk r) ≡ true
+enable-clocked r h on =
+    let after30 = passed (clockWithoutOutput r) 29 _ h .1 in
+    let after31 = passed (clearWithoutClock r) 30 _ after30 .1 in
+    let after32 = passed (loadWithoutClock r) 31 _ after31 .1 in
+    let after33 = passed (loadWithoutData r) 32 _ after32 .1 in
+    not-false (connected (clk r)) (rw on at (passed (enableWithoutClock r) 33 _ after33 .0))
+
+register-kept : (r : RegisterCell) → unfit (Register r) ≡ false → firstNumber (registerChecks r) ≡ 0
+unfolding unfit
+register-kept r h = eqb-true _ _ (not-false _ h)
+
+record-fit : (c : CellRecord) → unfit (recordFrom c) ≡ false → Fit (recordFrom c)
+unfolding recordFrom
+record-fit c h = record {
+  small-inputs = λ s m. small-input s (inputs-good 1024 (bytesOf c) s (input-of-all s (recordFrom c) m));
+  small-outputs = λ s m. small-output s (outputs-good 1024 (bytesOf c) s m);
+  clocked = λ r q. enable-clocked r (register-kept r (rw q at h));
+}
+
+pub all-fit : (cs : List CellRecord) → anyb unfit (map recordFrom cs) ≡ false → AllFit (map recordFrom cs)
+all-fit [] h = tt
+all-fit (c ∷ cs) h =
+    let g = or-parts (unfit (recordFrom c)) (anyb unfit (map recordFrom cs)) h in
+    (record-fit c (g .0), all-fit cs (g .1))
+
+-- ---- verdicts
+
+-- a list that passes 18 has the result of a LAB with those cells
+pub list-is-lab : (t : Table) (rs : List Record) (cs : List CellRecord) → map recordFrom cs ≡ rs → noList cs ≡ false → listVerdict t cs ≡ labResult t rs
+unfolding listVerdict listNumber labResult labNumber
+list-is-lab t rs cs e h = rw (h, e)
+
+-- one that does not has 18 and eight 255s
+pub list-refused : (t : Table) (cs : List CellRecord) → noList cs ≡ true → listVerdict t cs ≡ refused 18
+unfolding listVerdict listNumber
+list-refused t cs h = rw h
+
+-- the empty list has 0 and eight 255s
+pub empty-list : (t : Table) → listVerdict t [] ≡ record { number = 0; bytes = replicate 8 255 }
+unfolding listVerdict listNumber noList tooManyClocks tooManyPairs tooManyClears tooManySynchronous tooManyNets noWay needs routeOf netsIn inLab firstWay searchFrom labRouteOf eightBytes
+empty-list t = refl
+
+no-list-long : (cs : List CellRecord) → ltb 32 (length cs) ≡ true → noList cs ≡ true
+unfolding noList
+no-list-long cs h = rw h
+
+pub too-long : (t : Table) (cs : List CellRecord) → ltb 32 (length cs) ≡ true → refused 18 ≡ listVerdict t cs
+too-long t cs h = sym (list-refused t cs (no-list-long cs h))
+
+unfit-18 : (t : Table) (s : ListState) → s .fit ≡ false → finished t s ≡ refused 18
+unfolding finished
+unfit-18 t s h = rw h
+
+fit-result : (t : Table) (s : ListState) → s .fit ≡ true → finished t s ≡ resultFrom t (s .counts) (readMarks (s .marks))
+unfolding finished
+fit-result t s h = rw h
+
+no-list-unfit : (cs : List CellRecord) (b : Bool) → ltb 32 (length cs) ≡ false → anyb unfit (map recordFrom cs) ≡ b → noList cs ≡ b
+unfolding noList
+no-list-unfit cs b h e = rw (h, e)
+
+began-fit : (cs : List CellRecord) (b : Bool) → anyb unfit (map recordFrom cs) ≡ b → stateAll noState cs .fit ≡ not b
+unfolding noState
+began-fit cs b e = fit-all noState cs ∙ rw e
+
+began-counts : (cs : List CellRecord) → stateAll noState cs .counts ≡ countsAll noCounts (map recordFrom cs)
+unfolding noState
+began-counts cs = counts-all noState cs
+
+began-marks : (cs : List CellRecord) → stateAll noState cs .marks ≡ markCells (replicate 1024 0) (map recordFrom cs)
+unfolding noState
+began-marks cs = marks-all noState cs
+
+taken-is : (t : Table) (rs : List Record) → AllFit rs → resultFrom t (countsAll noCounts rs) (readMarks (markCells (replicate 1024 0) rs)) ≡ labResult t rs
+taken-is t rs fit = rw (counts-are rs, nets-are rs fit) (result-is t rs fit)
+
+pub all-taken : (t : Table) (cs : List CellRecord) → ltb 32 (length cs) ≡ false → finished t (stateAll noState cs) ≡ listVerdict t cs
+all-taken t cs h =
+    by-test (anyb unfit (map recordFrom cs))
+    (λ e. unfit-18 t (stateAll noState cs) (began-fit cs true e) ∙ sym (list-refused t cs (no-list-unfit cs true h e)))
+    (λ e. fit-result t (stateAll noState cs) (began-fit cs false e) ∙ rw (began-counts cs, began-marks cs) (taken-is t (map recordFrom cs) (all-fit cs e)) ∙ sym (list-is-lab t (map recordFrom cs) cs refl (no-list-unfit cs false h e)))
+
+-- ---- steps of the loop
+pub all-none : (s : ListState) → stateAll s [] ≡ s
+unfolding stateAll
+all-none s = refl
+
+pub all-one : (s : ListState) (c : CellRecord) (cs : List CellRecord) → stateAll s (c ∷ cs) ≡ stateAll (stateWith s c) cs
+unfolding stateAll
+all-one s c cs = refl

@@ -1,0 +1,163 @@
+ghost use mathlib.Core.Path.{_≡_};
+ghost use Rattle.sheet.specs.Exercise.{exerciseNumber};
+ghost use Rattle.sheet.specs.Answer.{openingNumber};
+ghost use Rattle.reader.specs.Reader.{exerciseStepAt, nextExercise, answerStepAt, nextAnswer};
+
+// An exercise, and the number of the record that comes next. The functions over a reader are thin: the work is done on the slice
+// and the number.
+pub struct ExerciseReader<'a> {
+    pub sheet: &'a [u8],
+    pub at: u16,
+}
+
+// An answer, and the number of the place record that comes next.
+pub struct AnswerReader<'a> {
+    pub sheet: &'a [u8],
+    pub at: u16,
+}
+
+// What a reader of an exercise gives: the next cell, or that its record breaks the layout, or that there is none.
+pub enum ExerciseStep {
+    Combinational(sheet::CombinationalCell),
+    Register(sheet::RegisterCell),
+    Broken,
+    End,
+}
+
+// What a reader of an answer gives: the next place, or that its record breaks the layout, or that there is none.
+pub enum AnswerStep {
+    Place(sheet::Place),
+    Broken,
+    End,
+}
+
+// The number of 10 to 14 that applies to an exercise, or 0.
+pub fn exercise_opens(exercise: &[u8]) -> u8
+    ensures { λ r. ⌜ r ≡ exerciseNumber (now (exercise .entry)) ⌝ }
+{
+    sheet::exercise_number(exercise)
+}
+
+// The number of 20 to 25 without 24 that applies to an answer, or 0.
+pub fn answer_opens(answer: &[u8]) -> u8
+    ensures { λ r. ⌜ r ≡ openingNumber (now (answer .entry)) ⌝ }
+{
+    match sheet::answer_header(answer) {
+        sheet::AnswerHeader::Refused(number) => number,
+        sheet::AnswerHeader::Given {
+            apprentice: _,
+            cells: _,
+        } => 0,
+    }
+}
+
+// What stands at a number in an exercise.
+pub fn exercise_step(exercise: &[u8], at: u16) -> ExerciseStep
+    ensures { λ r. ⌜ r ≡ exerciseStepAt (now (exercise .entry)) at ⌝ }
+{
+    if sheet::cell_count(exercise) <= at {
+        return ExerciseStep::End;
+    }
+    match sheet::record_at(exercise, sheet::CellNumber(at), sheet::net_count(exercise)) {
+        sheet::Record::Combinational(cell) => ExerciseStep::Combinational(cell),
+        sheet::Record::Register(cell) => ExerciseStep::Register(cell),
+        sheet::Record::Malformed => ExerciseStep::Broken,
+    }
+}
+
+// The number of the record to be read after this one: the same at the end, and at a record that breaks its layout.
+pub fn exercise_next(exercise: &[u8], at: u16) -> u16
+    ensures { λ r. ⌜ r ≡ nextExercise (now (exercise .entry)) at ⌝ }
+{
+    if sheet::cell_count(exercise) <= at {
+        return at;
+    }
+    match sheet::record_at(exercise, sheet::CellNumber(at), sheet::net_count(exercise)) {
+        sheet::Record::Combinational(_) => at + 1,
+        sheet::Record::Register(_) => at + 1,
+        sheet::Record::Malformed => at,
+    }
+}
+
+// What stands at a number in an answer.
+pub fn answer_step(answer: &[u8], at: u16) -> AnswerStep
+    ensures { λ r. ⌜ r ≡ answerStepAt (now (answer .entry)) at ⌝ }
+{
+    if sheet::place_count(answer) <= at {
+        return AnswerStep::End;
+    }
+    match sheet::place_at(answer, sheet::CellNumber(at)) {
+        sheet::Placed::At(place) => AnswerStep::Place(place),
+        sheet::Placed::OutOfRange => AnswerStep::Broken,
+    }
+}
+
+pub fn answer_next(answer: &[u8], at: u16) -> u16
+    ensures { λ r. ⌜ r ≡ nextAnswer (now (answer .entry)) at ⌝ }
+{
+    if sheet::place_count(answer) <= at {
+        return at;
+    }
+    match sheet::place_at(answer, sheet::CellNumber(at)) {
+        sheet::Placed::At(_) => at + 1,
+        sheet::Placed::OutOfRange => at,
+    }
+}
+
+// A reader of an exercise, before its first record.
+pub fn open_exercise<'a>(sheet: &'a [u8]) -> ExerciseReader<'a>
+    ensures { λ r. ⌜ (r .sheet ≡ sheet .entry) × (r .at ≡ 0) ⌝ }
+{
+    ExerciseReader { sheet, at: 0 }
+}
+
+// The next record of an exercise.
+pub fn next_record<'a>(r: ExerciseReader<'a>) -> ExerciseStep
+    ensures { λ s. ⌜ s ≡ exerciseStepAt (now (r .entry .sheet)) (r .entry .at) ⌝ }
+{
+    exercise_step(r.sheet, r.at)
+}
+
+// The reader of an exercise, moved on. It stays put at the end, and at a record that breaks its layout.
+pub fn after_record<'a>(r: ExerciseReader<'a>) -> ExerciseReader<'a>
+    ensures { λ q. ⌜ (q .sheet ≡ r .entry .sheet) × (q .at ≡ nextExercise (now (r .entry .sheet)) (r .entry .at)) ⌝ }
+{
+    let at = exercise_next(r.sheet, r.at);
+    ExerciseReader { sheet: r.sheet, at }
+}
+
+// A reader of an answer, before its first record.
+pub fn open_answer<'a>(sheet: &'a [u8]) -> AnswerReader<'a>
+    ensures { λ r. ⌜ (r .sheet ≡ sheet .entry) × (r .at ≡ 0) ⌝ }
+{
+    AnswerReader { sheet, at: 0 }
+}
+
+// The next place record of an answer.
+pub fn next_place<'a>(r: AnswerReader<'a>) -> AnswerStep
+    ensures { λ s. ⌜ s ≡ answerStepAt (now (r .entry .sheet)) (r .entry .at) ⌝ }
+{
+    answer_step(r.sheet, r.at)
+}
+
+// The reader of an answer, moved on.
+pub fn after_place<'a>(r: AnswerReader<'a>) -> AnswerReader<'a>
+    ensures { λ q. ⌜ (q .sheet ≡ r .entry .sheet) × (q .at ≡ nextAnswer (now (r .entry .sheet)) (r .entry .at)) ⌝ }
+{
+    let at = answer_next(r.sheet, r.at);
+    AnswerReader { sheet: r.sheet, at }
+}
+
+// An exercise's first record. Its contract says nothing of a reader.
+pub fn first_record(exercise: &[u8]) -> ExerciseStep
+    ensures { λ s. ⌜ s ≡ exerciseStepAt (now (exercise .entry)) 0 ⌝ }
+{
+    next_record(open_exercise(exercise))
+}
+
+// An answer's first place.
+pub fn first_place(answer: &[u8]) -> AnswerStep
+    ensures { λ s. ⌜ s ≡ answerStepAt (now (answer .entry)) 0 ⌝ }
+{
+    next_place(open_answer(answer))
+}
