@@ -57,7 +57,7 @@ pub walk-all : (next : List ℕ) (at n k : ℕ) → n ≤ k → walk next at (n 
 unfolding walk
 walk-all next at n k h = let none : n - k ≡ zero = omega arith in rw none
 
-no-marks : (n : ℕ) → readMarks (replicate n 0) ≡ 0
+pub no-marks : (n : ℕ) → readMarks (replicate n 0) ≡ 0
 unfolding readMarks
 no-marks zero = refl
 no-marks (suc n) = no-marks n

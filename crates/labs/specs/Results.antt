@@ -17,6 +17,10 @@ unfoldable pub resultOf : Table → ℕ → List ℕ → List ℕ → LabResult
 resultOf t nets e is =
     resultFrom t (countsAll noCounts (map (recordAt nets e) is)) (readMarks (markCells (replicate 1024 0) (map (recordAt nets e) is)))
 
+-- the same with no net counted
+unfoldable pub countedOf : Table → ℕ → List ℕ → List ℕ → LabResult
+countedOf t nets e is = resultFrom t (countsAll noCounts (map (recordAt nets e) is)) 0
+
 -- the result of LAB l
 unfoldable pub resultAt : Table → ℕ → List ℕ → List ℕ → List ℕ → ℕ → LabResult
 resultAt t nets e first next l = resultOf t nets e (walk next (getD first l NONE) 512)

@@ -2,11 +2,12 @@ use lab::Counts;
 use lab::LabResult;
 use sheet::CellNumber;
 ghost use mathlib.Core.Path.{_≡_};
-ghost use Prim.Native.Nat.{_<_, _/_, _%_};
+ghost use mathlib.Core.Bool.{true};
+ghost use Prim.Native.Nat.{_<_, _≤_, _/_, _%_};
 ghost use lib.ListN.{length, getD, set};
 ghost use Rattle.sheet.specs.Lists.{firstFrom};
 ghost use Rattle.labs.specs.Members.{Links, link, linkBelow, walk};
-ghost use Rattle.labs.specs.Results.{resultOf, resultAt, brokenLab, routeByte, rowFrom};
+ghost use Rattle.labs.specs.Results.{resultOf, countedOf, resultAt, brokenLab, routeByte, rowFrom};
 
 // The number of LABs.
 pub const LABS: u16 = 1024;
@@ -79,7 +80,48 @@ fn result_from(
     lab::lab_result(table, counts, distinct::count_read(&marks))
 }
 
-// The result of a LAB. One without cells keeps every rule and has eight 255s.
+// Whether the list that begins with a cell has five cells at the most.
+fn is_short(next: &[u16], start: u16) -> bool
+    ensures { λ r. ⌜ (r ≡ true → length (walk (now (next .entry)) start 512) ≤ 5) ⌝ }
+{
+    let mut at = start;
+    let mut k: usize = 0;
+    while k < 6 {
+        if next.len() <= at as usize {
+            return true;
+        }
+        at = entry(next, at as usize);
+        k += 1;
+    }
+    false
+}
+
+// The result of the LAB whose list begins with a cell, its nets not counted.
+fn counted_from(
+    table: [[bool; 5]; 6],
+    exercise: &[u8],
+    nets: u16,
+    next: &[u16],
+    start: u16,
+) -> LabResult
+    ensures { λ r. ⌜ r ≡ countedOf table nets (now (exercise .entry)) (walk (now (next .entry)) start 512) ⌝ }
+{
+    let mut counts = Counts::none();
+    let mut at = start;
+    let mut i: usize = 0;
+    while i < 512 {
+        if next.len() <= at as usize {
+            return lab::lab_result(table, counts, 0);
+        }
+        let cell = sheet::record_at(exercise, CellNumber(at), nets);
+        counts = counts.with(cell);
+        at = entry(next, at as usize);
+        i += 1;
+    }
+    lab::lab_result(table, counts, 0)
+}
+
+// The result of a LAB. One without cells keeps every rule and has eight 255s. Five cells read 35 nets at the most: they keep 64.
 pub fn result_at(
     table: [[bool; 5]; 6],
     exercise: &[u8],
@@ -96,6 +138,9 @@ pub fn result_at(
             number: 0,
             bytes: [255u8; 8],
         };
+    }
+    if is_short(next, start) {
+        return counted_from(table, exercise, nets, next, start);
     }
     result_from(table, exercise, nets, next, start)
 }

@@ -1,0 +1,154 @@
+-- A LAB of five cells at the most reads 35 nets at the most, so its result is the same with no net counted; and how the loops of `is_short` and
+-- `counted_from` go. Assumes nothing.
+use Prim.Native.Nat.{ℕ, zero, suc, _+_, _*_, _-_, _≤_, _<_}
+use mathlib.Core.Path.{_≡_, refl, sym, ap, _∙_}
+use mathlib.Core.Bool.{Bool, true, false, cond}
+use mathlib.Core.List.{List, [], _∷_, _++_, map}
+use native.Mathlib.Nat.{sub-zero}
+use native.Mathlib.Omega.{arith}
+use lib.ListN.{length, getD, set, replicate}
+use lib.Dec.{eqb}
+use borrow.Author.Tests.{lt-ltb, le-ltb}
+use Rattle.sheet.specs.Lists.{filterb, concatMap}
+use Rattle.sheet.specs.Record.{recordAt}
+use Rattle.sheet.specs.Signal.{isNet, netOf}
+use Rattle.sheet.specs.declared.Record.{Record}
+use Rattle.sheet.specs.declared.Record.the-variants.{Combinational, Register, Malformed}
+use Rattle.sheet.specs.Record.{outputs}
+use Rattle.sheet.proofs.Laws.{by-test}
+use Rattle.distinct.specs.Nets.{Use, reads, drives, netsRead, markRead, markDriven, markAll, readMarks}
+use Rattle.route.specs.Table.{Table}
+use Rattle.lab.specs.Ports.{inputs, netsAt}
+use Rattle.lab.specs.Counts.{noCounts, countsWith, countsAll, usesOf, markCells, brokenBy, resultFrom}
+use Rattle.lab.specs.declared.Counts.{Counts}
+use Rattle.lab.specs.declared.LabResult.{LabResult}
+use Rattle.netlist.specs.Tables.{NONE}
+use Rattle.labs.specs.Members.{walk}
+use Rattle.labs.specs.Results.{resultOf, countedOf}
+use Rattle.labs.proofs.Taking.{no-marks}
+
+-- ---- marks
+abbrev ones : List ℕ → ℕ
+ones l = length (filterb (eqb 1) l)
+
+one-more : (b : Bool) (x : ℕ) (l : List ℕ) → (length l ≤ length (cond b (x ∷ l) l)) × (length (cond b (x ∷ l) l) ≤ suc (length l))
+one-more true x l = (omega arith, omega arith)
+one-more false x l = (omega arith, omega arith)
+
+same-front : (b : Bool) (x d : ℕ) (l m : List ℕ) → length l ≤ d + length m → length (cond b (x ∷ l) l) ≤ d + length (cond b (x ∷ m) m)
+same-front true x d l m h = omega arith
+same-front false x d l m h = h
+
+set-most : (l : List ℕ) (i v : ℕ) → ones (set l i v) ≤ 1 + ones l
+set-most [] i v = omega arith
+set-most (x ∷ l) zero v = omega (arith, one-more (eqb 1 v) v (filterb (eqb 1) l) .1, one-more (eqb 1 x) x (filterb (eqb 1) l) .0)
+set-most (x ∷ l) (suc i) v = same-front (eqb 1 x) x 1 (filterb (eqb 1) (set l i v)) (filterb (eqb 1) l) (set-most l i v)
+
+set-driven : (l : List ℕ) (i : ℕ) → ones (set l i 2) ≤ 0 + ones l
+set-driven [] i = omega arith
+set-driven (x ∷ l) zero = omega (arith, one-more (eqb 1 x) x (filterb (eqb 1) l) .0)
+set-driven (x ∷ l) (suc i) = same-front (eqb 1 x) x 0 (filterb (eqb 1) (set l i 2)) (filterb (eqb 1) l) (set-driven l i)
+
+read-most : (m : List ℕ) (n : ℕ) → readMarks (markRead m n) ≤ 1 + readMarks m
+unfolding readMarks markRead
+read-most m n = by-test (eqb (getD m n 0) 0) (λ e. rw e (set-most m n 1)) (λ e. rw e (omega arith))
+
+driven-most : (m : List ℕ) (n : ℕ) → readMarks (markDriven m n) ≤ readMarks m
+unfolding readMarks markDriven
+driven-most m n = omega (arith, set-driven m n)
+
+marks-most : (m : List ℕ) (us : List Use) → readMarks (markAll m us) ≤ length (netsRead us) + readMarks m
+unfolding markAll
+marks-most m [] = omega arith
+marks-most m (reads n ∷ us) = omega (arith, marks-most (markRead m n) us, read-most m n)
+marks-most m (drives n ∷ us) = omega (arith, marks-most (markDriven m n) us, driven-most m n)
+
+-- ---- the reads of cells
+filter-most : (p : ℕ → Bool) (l : List ℕ) → length (filterb p l) ≤ length l
+filter-most p [] = omega arith
+filter-most p (x ∷ l) = omega (arith, one-more (p x) x (filterb p l) .1, filter-most p l)
+
+map-length : {A B : Type 0} (f : A → B) (l : List A) → length (map f l) ≡ length l
+map-length f [] = refl
+map-length f (x ∷ l) = ap suc (map-length f l)
+
+inputs-most : (c : Record) → length (inputs c) ≤ 7
+unfolding inputs
+inputs-most (Combinational c) = omega arith
+inputs-most (Register r) = omega arith
+inputs-most Malformed = omega arith
+
+nets-most : (c : Record) → length (netsAt (inputs c)) ≤ 7
+nets-most c = rw (map-length netOf (filterb isNet (inputs c))) (omega (arith, filter-most isNet (inputs c), inputs-most c))
+
+reads-then : (xs ys : List ℕ) (us : List Use) → length (netsRead ((map reads xs ++ map drives ys) ++ us)) ≡ length xs + length (netsRead us)
+reads-then [] [] us = omega arith
+reads-then [] (y ∷ ys) us = reads-then [] ys us
+reads-then (x ∷ xs) ys us = omega (arith, reads-then xs ys us)
+
+reads-most : (cs : List Record) → length (netsRead (concatMap usesOf cs)) ≤ 7 * length cs
+unfolding usesOf
+reads-most [] = omega arith
+reads-most (c ∷ cs) = omega (arith, reads-then (netsAt (inputs c)) (netsAt (outputs c)) (concatMap usesOf cs), nets-most c, reads-most cs)
+
+-- ---- the result
+nets-few : (t : Table) (k : Counts) (n : ℕ) → n ≤ 38 → resultFrom t k n ≡ resultFrom t k 0
+unfolding resultFrom brokenBy
+nets-few t k n h = rw (le-ltb 38 n h)
+
+few-reads : (t : Table) (k : Counts) (z : List ℕ) (cs : List Record) → readMarks z ≡ 0 → length cs ≤ 5 → resultFrom t k (readMarks (markCells z cs)) ≡ resultFrom t k 0
+unfolding markCells
+few-reads t k z cs none h =
+    nets-few t k (readMarks (markAll z (concatMap usesOf cs))) (omega (arith, marks-most z (concatMap usesOf cs), reads-most cs))
+
+pub short-is : (t : Table) (nets : ℕ) (e is : List ℕ) → length is ≤ 5 → countedOf t nets e is ≡ resultOf t nets e is
+unfolding resultOf countedOf
+short-is t nets e is h =
+    let cs = map (recordAt nets e) is in
+    sym (few-reads t (countsAll noCounts cs) (replicate 1024 0) cs (no-marks 1024) (rw (map-length (recordAt nets e) is) h))
+
+-- ---- the loops
+-- the first k cells of the list are passed
+pub record Passed (next : List ℕ) (n start at k : ℕ) : Type 0 where
+  pub within : k ≤ n
+  pub long : length (walk next start n) ≡ k + length (walk next at (n - k))
+
+module _ (next : List ℕ) (n start : ℕ) where
+  pub pass-starts : Passed next n start start 0
+  pass-starts = record { within = omega arith; long = rw (sub-zero n) (omega arith) }
+
+  module _ (at k : ℕ) (s : Passed next n start at k) where
+    pub pass-goes : (at′ : ℕ) → k < n → at < length next → at′ ≡ getD next at NONE → Passed next n start at′ (k + 1)
+    unfolding walk
+    pass-goes at′ h l r =
+        let more : n - k ≡ suc (n - (k + 1)) = omega arith in
+        let one : length (walk next at (n - k)) ≡ suc (length (walk next at′ (n - (k + 1)))) = rw (more, lt-ltb at (length next) l, r) in
+        record { within = omega arith; long = omega (arith, s .long) }
+
+    pub pass-ends : walk next at (n - k) ≡ [] → length (walk next start n) ≡ k
+    pass-ends z = let none : length (walk next at (n - k)) ≡ 0 = rw z in omega (arith, s .long)
+
+pub false-not-true : {G : Type 0} → false ≡ true → G
+false-not-true e = let z : _≡_ {A = ℕ} 0 1 = cc in absurd (omega arith)
+
+-- k of at most n cells are counted
+pub record Counted (nets : ℕ) (e next : List ℕ) (n start : ℕ) (counts : Counts) (at k : ℕ) : Type 0 where
+  pub within : k ≤ n
+  pub counted : countsAll noCounts (map (recordAt nets e) (walk next start n)) ≡ countsAll counts (map (recordAt nets e) (walk next at (n - k)))
+
+module _ (nets : ℕ) (e next : List ℕ) (n start : ℕ) where
+  pub count-starts : (counts : Counts) → counts ≡ noCounts → Counted nets e next n start counts start 0
+  count-starts counts z = record { within = omega arith; counted = rw (sub-zero n, z) }
+
+  module _ (counts : Counts) (at k : ℕ) (s : Counted nets e next n start counts at k) where
+    pub count-goes : (cell : Record) (counts′ : Counts) (at′ : ℕ) → k < n → at < length next → cell ≡ recordAt nets e at
+        → counts′ ≡ countsWith counts cell → at′ ≡ getD next at NONE → Counted nets e next n start counts′ at′ (k + 1)
+    unfolding walk countsAll
+    count-goes cell counts′ at′ h l c p r =
+        let more : n - k ≡ suc (n - (k + 1)) = omega arith in
+        record { within = omega arith; counted = s .counted ∙ rw (more, lt-ltb at (length next) l, p, c, r) }
+
+    pub count-ends : (t : Table) {r : LabResult} → walk next at (n - k) ≡ [] → r ≡ resultFrom t counts 0
+        → r ≡ countedOf t nets e (walk next start n)
+    unfolding countsAll countedOf
+    count-ends t z p = p ∙ rw (s .counted, z)
