@@ -42,7 +42,7 @@ enum {
  *            verdict is another, not one byte is touched. A buffer that isn't exactly 8,192 bytes long gives
  *            verdict 1.
  *
- * The call always returns, allocates nothing, keeps nothing and uses about 64 KiB of stack. */
+ * The call always returns, allocates nothing, keeps nothing and uses some 42 KiB of stack. */
 void nurimkkot_judge(const uint8_t *exercise, size_t exercise_length,
                      const uint8_t *answer, size_t answer_length,
                      uint8_t *route, size_t route_length,
