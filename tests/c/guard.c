@@ -1,5 +1,5 @@
 /* Calls the judge as the tablet would: empty sheets, route buffers of every length around the right one with guard bytes on both
- * sides, damaged sheets. Built with the address and undefined-behaviour sanitizers. */
+ * sides, damaged sheets. The sanitizers watch this program; what the library itself reads and writes is seen only under valgrind. */
 #include "../../c/nurimkkot.h"
 
 #include <stdio.h>
@@ -28,7 +28,7 @@ static void expect(int holds, const char *what, long at)
     }
 }
 
-/* A copy of its own for each sheet, so that a read past the end is seen. */
+/* A copy of its own for each sheet, so that valgrind sees a read past the end. */
 static uint8_t *copy_of(const uint8_t *bytes, size_t length)
 {
     uint8_t *copy = malloc(length ? length : 1);
