@@ -3,6 +3,7 @@
 
 mod generate;
 mod judge;
+mod plain;
 mod proved;
 
 use generate::*;

@@ -1,9 +1,12 @@
-//! Judges seeded pairs of sheets by the proved judge and by the Rust judge and
-//! stops at the first difference.
+//! Judges seeded pairs of sheets by the proved judge and by the Rust judge, reads
+//! them by the readers, checks the list of every LAB, and stops at the first
+//! difference.
 //! Arguments: number of pairs (200000), seed (1).
 
+mod forms;
 mod generate;
 mod judge;
+mod plain;
 mod proved;
 
 use generate::*;
@@ -408,6 +411,42 @@ fn run_examples(both: &mut Both, pattern: &[u8]) {
     println!("{} settled examples agree", all.len());
 }
 
+/// The readers on both sheets, the list of each LAB, and a list of no LAB.
+fn compare_forms(
+    seen: &mut forms::Counts,
+    rng: &mut Rng,
+    case: &Case,
+    n: &[u64; 7],
+    route: &[u8],
+) -> Result<(), String> {
+    let said = forms::Said {
+        number: n[0] as u8,
+        cell: n[1] as u16,
+        lab: n[2] as u16,
+    };
+    forms::readers(seen, rng, &case.exercise, &case.answer, &said)?;
+    forms::labs(seen, &case.exercise, &case.answer, route, &said)?;
+    forms::list(seen, &forms::any_list(rng, &case.exercise)).map(|_| ())
+}
+
+/// What the readers and the list check gave, and whether some case did not occur.
+fn report_forms(seen: &forms::Counts) -> bool {
+    let by_number = |title: &str, counts: &[u64; 256], numbers: &[usize]| {
+        let each: Vec<String> = numbers.iter().map(|&n| format!("{n}: {}", counts[n])).collect();
+        println!("{title}: {}", each.join(", "));
+        numbers.iter().any(|&n| counts[n] == 0)
+    };
+    let openings = [0, 10, 11, 12, 13, 14, 20, 21, 22, 23, 25];
+    let mut missing = by_number("sheets opened, by number", &seen.openings, &openings);
+    for (what, n) in [("cells", &seen.cells), ("places", &seen.places)] {
+        println!("{what} read: {}, broken: {}, end: {}", n[0], n[1], n[2]);
+        missing |= n.contains(&0);
+    }
+    missing |= by_number("lists, by number", &seen.lists, &[0, 18, 60, 61, 62, 63, 64, 65]);
+    println!("lists of a LAB of which the judge says the same: {}", seen.judged);
+    missing || seen.judged == 0
+}
+
 fn main() {
     let mut args = std::env::args().skip(1);
     let mut number = |default: u64| match args.next() {
@@ -428,6 +467,9 @@ fn main() {
 
     let mut counts = [0u64; 256];
     let mut places = HashSet::new();
+    let mut seen = forms::Counts::new();
+    // The forms take nothing from the numbers that the pairs are made of.
+    let mut other = Rng::new(!seed);
     let started = std::time::Instant::now();
     for i in 0..pairs {
         let case = generate::case(&mut rng);
@@ -445,18 +487,21 @@ fn main() {
             }
             _ => &pattern[from..from + longest],
         };
-        match both.run(&case.exercise, &case.answer, fill, case.route) {
-            Ok(n) => {
-                counts[n[0] as usize] += 1;
-                let place = if n[0] >= 60 { n[2] } else { n[1] };
-                if place != NO {
-                    places.insert((n[0], place));
-                }
-            }
-            Err(wrong) => {
-                println!("pair {i} of seed {seed} ({}): {wrong}", case.name);
-                exit(1);
-            }
+        let fail = |wrong: String| -> ! {
+            println!("pair {i} of seed {seed} ({}): {wrong}", case.name);
+            exit(1);
+        };
+        let n = both
+            .run(&case.exercise, &case.answer, fill, case.route)
+            .unwrap_or_else(|wrong| fail(wrong));
+        counts[n[0] as usize] += 1;
+        let place = if n[0] >= 60 { n[2] } else { n[1] };
+        if place != NO {
+            places.insert((n[0], place));
+        }
+        if let Err(wrong) = compare_forms(&mut seen, &mut other, &case, &n, both.route()) {
+            let sheets = hex("exercise", &case.exercise) + &hex("answer", &case.answer);
+            fail(wrong + &sheets);
         }
     }
 
@@ -471,6 +516,7 @@ fn main() {
         println!("{n:>6} {:>8}  {seen:>8}", counts[n as usize]);
         missing |= counts[n as usize] == 0;
     }
+    missing |= report_forms(&seen);
     if missing {
         println!("a number did not occur");
         exit(1);

@@ -1,6 +1,8 @@
-//! The proved judge, linked from its C static library.
+//! The proved judge, readers and list check, linked from the C static library.
+#![allow(dead_code)]
 
 use crate::judge::Verdict;
+use crate::plain::{CellRecord, Step};
 
 extern "C" {
     fn nurimkkot_judge(
@@ -12,6 +14,21 @@ extern "C" {
         route_len: usize,
         numbers: *mut u64,
     );
+    fn nurimkkot_open_exercise(exercise: *const u8, exercise_len: usize) -> u8;
+    fn nurimkkot_open_answer(answer: *const u8, answer_len: usize) -> u8;
+    fn nurimkkot_next_cell(
+        exercise: *const u8,
+        exercise_len: usize,
+        at: *mut u16,
+        cell: *mut u16,
+    ) -> u8;
+    fn nurimkkot_next_place(
+        answer: *const u8,
+        answer_len: usize,
+        at: *mut u16,
+        place: *mut u16,
+    ) -> u8;
+    fn nurimkkot_check_lab(cells: *const CellRecord, count: usize, route: *mut u8) -> u8;
 }
 
 /// Number, cell, LAB, apprentice, sheet, start and size as the library gives them.
@@ -43,4 +60,62 @@ pub fn numbers(v: &Verdict) -> [u64; 7] {
         v.start,
         v.size,
     ]
+}
+
+pub fn open_exercise(exercise: &[u8]) -> u8 {
+    unsafe { nurimkkot_open_exercise(exercise.as_ptr(), exercise.len()) }
+}
+
+pub fn open_answer(answer: &[u8]) -> u8 {
+    unsafe { nurimkkot_open_answer(answer.as_ptr(), answer.len()) }
+}
+
+/// A step by the number that the library gives; where no record is given, zeros are.
+fn step<T: PartialEq + std::fmt::Debug>(told: u8, given: T, zeros: T) -> Step<T> {
+    match told {
+        0 => return Step::Given(given),
+        1 | 2 => assert_eq!(given, zeros, "fields of a record that was not given"),
+        _ => panic!("the reader says {told}"),
+    }
+    if told == 1 {
+        Step::Broken
+    } else {
+        Step::End
+    }
+}
+
+pub fn next_cell(exercise: &[u8], at: u16) -> (Step<CellRecord>, u16) {
+    let mut next = at;
+    let mut f = [0xdead; 13];
+    let told = unsafe {
+        nurimkkot_next_cell(exercise.as_ptr(), exercise.len(), &mut next, f.as_mut_ptr())
+    };
+    assert!(f[0] < 256 && f[1] < 256, "kind or flag over a byte");
+    let mut signals = [0; 11];
+    signals.copy_from_slice(&f[2..]);
+    let given = CellRecord {
+        kind: f[0] as u8,
+        flag: f[1] as u8,
+        signals,
+    };
+    let zeros = CellRecord {
+        kind: 0,
+        flag: 0,
+        signals: [0; 11],
+    };
+    (step(told, given, zeros), next)
+}
+
+pub fn next_place(answer: &[u8], at: u16) -> (Step<[u16; 3]>, u16) {
+    let mut next = at;
+    let mut p = [0xdead; 3];
+    let told =
+        unsafe { nurimkkot_next_place(answer.as_ptr(), answer.len(), &mut next, p.as_mut_ptr()) };
+    (step(told, p, [0; 3]), next)
+}
+
+pub fn check_lab(cells: &[CellRecord]) -> (u8, [u8; 8]) {
+    let mut route = [0xad; 8];
+    let number = unsafe { nurimkkot_check_lab(cells.as_ptr(), cells.len(), route.as_mut_ptr()) };
+    (number, route)
 }

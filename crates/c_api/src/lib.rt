@@ -1,9 +1,20 @@
+use lab::LabResult;
+use lab_list::CellRecord;
+use reader::AnswerStep;
+use reader::ExerciseStep;
+use sheet::CombinationalCell;
+use sheet::Place;
+use sheet::RegisterCell;
 ghost use mathlib.Core.Path.{_≡_};
 ghost use mathlib.Core.Bool.{cond};
 ghost use lib.ListN.{length};
 ghost use Rattle.route.specs.Table.{houseBoard};
 ghost use Rattle.judge.specs.Judge.{judged, routed};
-ghost use Rattle.c_api.specs.Told.{sevenNumbers};
+ghost use Rattle.sheet.specs.Exercise.{exerciseNumber};
+ghost use Rattle.sheet.specs.Answer.{openingNumber};
+ghost use Rattle.reader.specs.Reader.{exerciseStepAt, nextExercise, answerStepAt, nextAnswer};
+ghost use Rattle.lab_list.specs.ListCheck.{listVerdict};
+ghost use Rattle.c_api.specs.Told.{sevenNumbers, cellTold, combinationalFields, registerFields, cellFields, placeTold, placeNumbers, placeFields};
 
 fn wide8(n: u8) -> u64
     ensures { λ r. ⌜ r ≡ n ⌝ }
@@ -58,4 +69,163 @@ pub extern "C" fn nurimkkot_judge(
     let start = wide(culprit.start);
     let size = wide(culprit.size);
     *numbers = [number, cell, lab, apprentice, sheet, start, size];
+}
+
+// The number of 10 to 14 that applies to an exercise, or 0.
+#[no_mangle]
+pub extern "C" fn nurimkkot_open_exercise(exercise: &[u8]) -> u8
+    ensures { λ r. ⌜ r ≡ exerciseNumber (now (exercise .entry)) ⌝ }
+{
+    reader::exercise_opens(exercise)
+}
+
+// The number of 20 to 25 without 24 that applies to an answer, or 0.
+#[no_mangle]
+pub extern "C" fn nurimkkot_open_answer(answer: &[u8]) -> u8
+    ensures { λ r. ⌜ r ≡ openingNumber (now (answer .entry)) ⌝ }
+{
+    reader::answer_opens(answer)
+}
+
+fn flag(set: bool) -> u16
+    ensures { λ r. ⌜ r ≡ cond set 1 0 ⌝ }
+{
+    if set { 1 } else { 0 }
+}
+
+fn combinational_fields(c: CombinationalCell) -> [u16; 13]
+    ensures { λ r. ⌜ r ≡ combinationalFields c ⌝ }
+{
+    let sums = flag(c.sums_cin);
+    [
+        1,
+        sums,
+        c.dataa.0,
+        c.datab.0,
+        c.datac.0,
+        c.datad.0,
+        c.cin.0,
+        c.combout.0,
+        c.cout.0,
+        0,
+        0,
+        0,
+        0,
+    ]
+}
+
+fn register_fields(r: RegisterCell) -> [u16; 13]
+    ensures { λ f. ⌜ f ≡ registerFields r ⌝ }
+{
+    [
+        2,
+        0,
+        r.datain.0,
+        r.clk.0,
+        r.ena.0,
+        r.aclr.0,
+        r.sclr.0,
+        r.sload.0,
+        r.sdata.0,
+        r.regout.0,
+        0,
+        0,
+        0,
+    ]
+}
+
+fn cell_fields(step: ExerciseStep) -> [u16; 13]
+    ensures { λ r. ⌜ r ≡ cellFields step ⌝ }
+{
+    match step {
+        ExerciseStep::Combinational(c) => return combinational_fields(c),
+        ExerciseStep::Register(c) => return register_fields(c),
+        ExerciseStep::Broken => return [0u16; 13],
+        ExerciseStep::End => return [0u16; 13],
+    }
+}
+
+fn cell_told(step: ExerciseStep) -> u8
+    ensures { λ r. ⌜ r ≡ cellTold step ⌝ }
+{
+    match step {
+        ExerciseStep::Combinational(_) => return 0,
+        ExerciseStep::Register(_) => return 0,
+        ExerciseStep::Broken => return 1,
+        ExerciseStep::End => return 2,
+    }
+}
+
+// The next record of an exercise, through a reader that stands at a number; the number moves on. Says 0 with the record, 1 at a record
+// that breaks its layout, 2 at the end; then the number stays put.
+#[no_mangle]
+pub extern "C" fn nurimkkot_next_cell(exercise: &[u8], at: &mut u16, cell: &mut [u16; 13]) -> u8
+    ensures told { λ r. ⌜ r ≡ cellTold (exerciseStepAt (now (exercise .entry)) (now (at .entry))) ⌝ }
+    ensures fields { λ _. ⌜ now (cell .exit) ≡ cellFields (exerciseStepAt (now (exercise .entry)) (now (at .entry))) ⌝ }
+    ensures moved { λ _. ⌜ now (at .exit) ≡ nextExercise (now (exercise .entry)) (now (at .entry)) ⌝ }
+{
+    let step = reader::read_record(exercise, at);
+    *cell = cell_fields(step);
+    cell_told(step)
+}
+
+fn place_numbers(p: Place) -> [u16; 3]
+    ensures { λ r. ⌜ r ≡ placeNumbers p ⌝ }
+{
+    let x = p.x as u16;
+    let y = p.y as u16;
+    let le = p.le as u16;
+    [x, y, le]
+}
+
+fn place_fields(step: AnswerStep) -> [u16; 3]
+    ensures { λ r. ⌜ r ≡ placeFields step ⌝ }
+{
+    match step {
+        AnswerStep::Place(p) => return place_numbers(p),
+        AnswerStep::Broken => return [0u16; 3],
+        AnswerStep::End => return [0u16; 3],
+    }
+}
+
+fn place_told(step: AnswerStep) -> u8
+    ensures { λ r. ⌜ r ≡ placeTold step ⌝ }
+{
+    match step {
+        AnswerStep::Place(_) => return 0,
+        AnswerStep::Broken => return 1,
+        AnswerStep::End => return 2,
+    }
+}
+
+// The next place of an answer, in the same way.
+#[no_mangle]
+pub extern "C" fn nurimkkot_next_place(answer: &[u8], at: &mut u16, place: &mut [u16; 3]) -> u8
+    ensures told { λ r. ⌜ r ≡ placeTold (answerStepAt (now (answer .entry)) (now (at .entry))) ⌝ }
+    ensures fields { λ _. ⌜ now (place .exit) ≡ placeFields (answerStepAt (now (answer .entry)) (now (at .entry))) ⌝ }
+    ensures moved { λ _. ⌜ now (at .exit) ≡ nextAnswer (now (answer .entry)) (now (at .entry)) ⌝ }
+{
+    let step = reader::read_place(answer, at);
+    *place = place_fields(step);
+    place_told(step)
+}
+
+// The number of a LAB's result, its route bytes written.
+fn tell(result: LabResult, route: &mut [u8; 8]) -> u8
+    ensures number { λ r. ⌜ r ≡ result .number ⌝ }
+    ensures bytes { λ _. ⌜ now (route .exit) ≡ result .bytes ⌝ }
+{
+    let bytes = result.bytes;
+    *route = bytes;
+    result.number
+}
+
+// The check of one LAB on a lent list of its cell records, on the board of document 01. Asks nothing of its caller: a list of any length.
+// The eight route bytes are written whatever the number: 255 each where it is not 0.
+#[no_mangle]
+pub extern "C" fn nurimkkot_check_lab(cells: &[CellRecord], route: &mut [u8; 8]) -> u8
+    ensures number { λ r. ⌜ r ≡ listVerdict houseBoard (now (cells .entry)) .number ⌝ }
+    ensures bytes { λ _. ⌜ now (route .exit) ≡ listVerdict houseBoard (now (cells .entry)) .bytes ⌝ }
+{
+    tell(lab_list::check_list(cells), route)
 }

@@ -77,22 +77,22 @@ elem-in : (z : ℕ) (l : List ℕ) → elemb z l ≡ true → In z l
 elem-in z [] h = absurd (true≢false (sym h))
 elem-in z (x ∷ xs) h = by-test (eqb z x) (λ e. inl (eqb-true z x e)) (λ e. inr (elem-in z xs (rw e at h)))
 
-in-elem : (z : ℕ) (l : List ℕ) → In z l → elemb z l ≡ true
+pub in-elem : (z : ℕ) (l : List ℕ) → In z l → elemb z l ≡ true
 in-elem z [] m = absurd m
 in-elem z (x ∷ xs) (inl e) = rw (eq-eqb z x e)
 in-elem z (x ∷ xs) (inr m) = by-test (eqb z x) (λ e. rw e) (λ e. rw e (in-elem z xs m))
 
 -- ---- the numbers from i on
-from-above : (i n : ℕ) → Above i (from i n)
+pub from-above : (i n : ℕ) → Above i (from i n)
 from-above i zero = tt
 from-above i (suc n) = (omega arith, from-above (suc i) n)
 
-in-from : (z i n : ℕ) → In z (from i n) → z < i + n
+pub in-from : (z i n : ℕ) → In z (from i n) → z < i + n
 in-from z i zero m = absurd m
 in-from z i (suc n) (inl e) = omega arith
 in-from z i (suc n) (inr m) = omega (arith, in-from z (suc i) n m)
 
-from-in : (z i n : ℕ) → i ≤ z → z < i + n → In z (from i n)
+pub from-in : (z i n : ℕ) → i ≤ z → z < i + n → In z (from i n)
 from-in z i zero g h = absurd (omega arith)
 from-in z i (suc n) g h = by-test (eqb z i) (λ e. inl (eqb-true z i e)) (λ e. inr (from-in z (suc i) n (later (eqb-false z i e)) (omega arith)))
   where

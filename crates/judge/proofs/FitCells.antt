@@ -26,10 +26,10 @@ use Rattle.netlist.proofs.Decoded.{inputs-good, outputs-good, good-net, good-ou
 
 -- ---- signals
 module _ (nets s : ℕ) (few : nets ≤ 1024) where
-  small-input : isBad nets s ≡ false → s < 2052
+  pub small-input : isBad nets s ≡ false → s < 2052
   small-input h = by-test (isNet s) (λ n. omega (arith, good-net nets s h n)) (λ n. omega (arith, leb-false 4 s n))
 
-  small-output : isBadOutput nets s ≡ false → s < 2052
+  pub small-output : isBadOutput nets s ≡ false → s < 2052
   small-output h =
       by-test (eqb s 0) (λ q. omega (arith, eqb-true s 0 q)) (λ q. omega (arith, good-output nets s h (rw q) .2))
 
@@ -38,7 +38,7 @@ elem-more s [] ys m = absurd (true≢false (sym m))
 elem-more s (x ∷ xs) ys m = by-test (eqb s x) (λ e. rw e) (λ e. rw e (elem-more s xs ys (rw e at m)))
 
 -- the inputs without cin are inputs
-input-of-all : (s : ℕ) (c : Record) → elemb s (inputs c) ≡ true → elemb s (allInputs c) ≡ true
+pub input-of-all : (s : ℕ) (c : Record) → elemb s (inputs c) ≡ true → elemb s (allInputs c) ≡ true
 unfolding inputs allInputs
 input-of-all s (Combinational c) m = elem-more s (inputs (Combinational c)) (c .cin .0 ∷ []) m
 input-of-all s (Register r) m = m
@@ -49,7 +49,7 @@ passed : (b : Bool) (n later : ℕ) → cond b (suc n) later ≡ 0 → (b ≡ fa
 passed true n later h = absurd (omega arith)
 passed false n later h = (refl, h)
 
-enable-clocked : (r : RegisterCell) → firstNumber (registerChecks r) ≡ 0 → connected (ena r) ≡ true → connected (clk r) ≡ true
+pub enable-clocked : (r : RegisterCell) → firstNumber (registerChecks r) ≡ 0 → connected (ena r) ≡ true → connected (clk r) ≡ true
 enable-clocked r h on =
     let after30 = passed (clockWithoutOutput r) 29 _ h .1 in
     let after31 = passed (clearWithoutClock r) 30 _ after30 .1 in

@@ -36,10 +36,10 @@ hold-from f i (suc k) h j l m =
     let g = hold-append (f i) (concatMap f (from (suc i) k)) h in
     ⊎-elim (λ q. rw (← q) (g .0)) (λ q. hold-from f (suc i) k (g .1) j q (omega arith)) (eq-or-lt-of-le l)
 
-hold-each : (f : ℕ → List Check) (k : ℕ) → AllHold (concatMap f (below k)) → (j : ℕ) → j < k → AllHold (f j)
+pub hold-each : (f : ℕ → List Check) (k : ℕ) → AllHold (concatMap f (below k)) → (j : ℕ) → j < k → AllHold (f j)
 hold-each f k h j l = hold-from f 0 k h j (omega arith) (omega arith)
 
-hold-number : (i : ℕ) (ks : List sheet.Check) → AllHold (ofCell i ks) → sheet.firstNumber ks ≡ 0
+pub hold-number : (i : ℕ) (ks : List sheet.Check) → AllHold (ofCell i ks) → sheet.firstNumber ks ≡ 0
 unfolding AllHold
 hold-number i [] h = refl
 hold-number i (k ∷ ks) h = rw (h .0) (hold-number i ks (h .1))

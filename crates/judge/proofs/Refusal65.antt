@@ -87,7 +87,7 @@ module _ (f : ℕ → Bool) where
       by-test (f i) (λ q. let g′ : j < i = rw q at g in absurd (omega arith))
       (λ q. ⊎-elim (λ e. rw (← e) q) (λ m. before-first k (suc i) j m (rw q at g)) (eq-or-lt-of-le h))
 
-  first-is : (k i l : ℕ) → i ≤ l → l < i + k → ((j : ℕ) → i ≤ j → j < l → f j ≡ false) → f l ≡ true → firstFrom f i k ≡ l
+  pub first-is : (k i l : ℕ) → i ≤ l → l < i + k → ((j : ℕ) → i ≤ j → j < l → f j ≡ false) → f l ≡ true → firstFrom f i k ≡ l
   unfolding firstFrom
   first-is zero i l h m low q = absurd (omega arith)
   first-is (suc k) i l h m low q =
@@ -115,13 +115,13 @@ module _ (g : ℕ → List sheet.Check) (numbered : (j : ℕ) → NumberedIn (g 
       (λ j h. unset (sheet.firstNumber (g j)) (before-first (breaksOne g) k 0 j (omega arith) (omega arith)), rw is at (rw here at u)))
       (λ q. absurd (some-number (sym (rw (finds, q) at u))))
 
-  lab-to : l < k → ((j : ℕ) → j < l → sheet.firstNumber (g j) ≡ 0) → sheet.firstNumber (g l) ≡ n → first ≡ finding n NONE l
+  pub lab-to : l < k → ((j : ℕ) → j < l → sheet.firstNumber (g j) ≡ 0) → sheet.firstNumber (g l) ≡ n → first ≡ finding n NONE l
   lab-to h low u =
       let is : at-first ≡ l = first-is (breaksOne g) k 0 l (omega arith) (omega arith) (λ j a b. rw (low j b)) (rw (u, ne-eqb n 0 some-number)) in
       labs-find g k numbered ∙ rw (is, lt-ltb l k h, u)
 
 -- ---- a LAB that has no way has a cell, so its number is below 1024
-hold-run : (n : ℕ) (f : ℕ → Bool) (k i j : ℕ) → AllHold (perCell n f (from i k)) → i ≤ j → j < i + k → f j ≡ false
+pub hold-run : (n : ℕ) (f : ℕ → Bool) (k i j : ℕ) → AllHold (perCell n f (from i k)) → i ≤ j → j < i + k → f j ≡ false
 unfolding AllHold
 hold-run n f zero i j h a b = absurd (omega arith)
 hold-run n f (suc k) i j h a b = ⊎-elim (λ e. rw (← e) (h .0)) (λ m. hold-run n f k (suc i) j (h .1) m (omega arith)) (eq-or-lt-of-le a)
@@ -132,7 +132,7 @@ none-pass p (suc k) i h = rw (h i (omega arith) (omega arith)) (none-pass p k (s
 
 module _ (e a : List ℕ) where
   -- 26 is among the checks to 51
-  places-hold : (r : ℕ) → AllHold (checksTo51 e a r) → (i : ℕ) → i < cellCount e → outOfRangeAt a i ≡ false
+  pub places-hold : (r : ℕ) → AllHold (checksTo51 e a r) → (i : ℕ) → i < cellCount e → outOfRangeAt a i ≡ false
   unfolding checksTo51 answerGroup AllHold
   places-hold r h i m =
       let after = hold-append (exerciseGroup e) _ (hold-append (roomChecks r) _ h .1) .1 in

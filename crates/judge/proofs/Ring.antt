@@ -1,7 +1,7 @@
 -- "A ring of carries therefore always ends in 51, where nothing earlier is broken." Assumes nothing.
 use Prim.Native.Nat.{ℕ, zero, suc, _+_, _≤_, _<_}
 use native.Mathlib.Omega.{arith}
-use mathlib.Core.Path.{_≡_, refl, sym, ap, _∙_}
+use mathlib.Core.Path.{_≡_, refl, sym, _∙_}
 use mathlib.Core.Bool.{Bool, true, false, not, _&&_, true≢false}
 use mathlib.Core.List.{List, _++_}
 use lib.Dec.{eqb, ltb}
@@ -16,7 +16,6 @@ use Rattle.netlist.specs.Cells.{cell, cellNumbers, feeds}
 use Rattle.placing.specs.Places.{follows, placeTaken}
 use Rattle.placing.proofs.Places.{no-ring}
 use Rattle.netlist.specs.Tables.{NONE}
-use Rattle.judge.specs.declared.Finding.{Finding}
 use Rattle.judge.specs.Judge.{finding, perCell, standsApart, carryNotNext, roomChecks, exerciseGroup, answerGroup, cellGroup, placeGroup, labGroup, checksTo51, checks, firstBroken, judged, verdictOf}
 use Rattle.judge.specs.Demands.{AllHold}
 use Rattle.judge.proofs.Broken.{first-append, skip-held, run-finds}

@@ -37,7 +37,7 @@ module _ (g : ℕ → List ℕ) (eight : (l : ℕ) → length (g l) ≡ 8) where
   pub row-at : (k l j : ℕ) → l < k → j < 8 → getD (concatMap g (below k)) (8 * l + j) 0 ≡ getD (g l) j 0
   row-at k l j h s = row-from 0 k l j h s ∙ rw zero-add
 
-route-eight : (ns : List Need) (way : Option (List ℕ)) → length (labRouteOf ns way .bytes) ≡ 8
+pub route-eight : (ns : List Need) (way : Option (List ℕ)) → length (labRouteOf ns way .bytes) ≡ 8
 unfolding labRouteOf eightBytes
 route-eight ns none = refl
 route-eight ns (some w) = refl
@@ -52,7 +52,7 @@ found-way (some w) h = (w, refl)
 
 -- ---- a legal verdict
 module _ (t : Table) (e a before : List ℕ) (legal : judged t e a (length before) .number ≡ 0) where
-  written : routed t e a before ≡ concatMap (λ l. routeOf t (labCells e a l)) (below 1024)
+  pub written : routed t e a before ≡ concatMap (λ l. routeOf t (labCells e a l)) (below 1024)
   unfolding routed
   written = rw legal
 

@@ -3,22 +3,18 @@
 use Prim.Native.Nat.{ℕ, _<_}
 use mathlib.Core.Path.{_≡_, refl, ap, _∙_}
 use mathlib.Core.Logic.{_⊎_, inl, inr, ⊎-elim}
-use mathlib.Core.Bool.{true}
 use mathlib.Core.List.{List, [], _∷_, _++_, map}
 use native.Mathlib.Omega.{arith}
 use lib.ListN.{length, replicate}
-use lib.Dec.{eqb}
-use borrow.Author.Tests.{eq-eqb}
-use Rattle.sheet.specs.Lists.{concatMap, filterb, elemb}
+use Rattle.sheet.specs.Lists.{concatMap, filterb}
 use Rattle.sheet.specs.Signal.{isNet, netOf}
 use Rattle.sheet.specs.declared.Record.{Record}
-use Rattle.sheet.proofs.Laws.{by-test}
 use Rattle.distinct.specs.Nets.{Use, reads, drives, netsRead, netsDriven, markAll, readMarks}
 use Rattle.distinct.specs.UpToTwo.{withCode, withCodes}
 use Rattle.distinct.specs.declared.UpToTwo.{UpToTwo}
 use Rattle.distinct.proofs.Rising.{In, map-in, in-filter}
 use Rattle.distinct.proofs.Codes.{with-all}
-use Rattle.distinct.proofs.Nets.{mark-append, ones-are}
+use Rattle.distinct.proofs.Nets.{in-elem, mark-append, ones-are}
 use Rattle.lab.specs.declared.Counts.{Counts}
 use Rattle.lab.specs.Ports.{ena, sclr, sload, clock, clockPair, clear, inUse, needed, inLab, inputs, netsAt, netsIn}
 use Rattle.sheet.specs.Record.{outputs}
@@ -61,11 +57,6 @@ append-in z [] ys m = ⊎-elim (λ n. absurd n) (λ n. n) m
 append-in z (x ∷ xs) ys (inl (inl e)) = inl e
 append-in z (x ∷ xs) ys (inl (inr m)) = inr (append-in z xs ys (inl m))
 append-in z (x ∷ xs) ys (inr m) = inr (append-in z xs ys (inr m))
-
-pub in-elem : (z : ℕ) (l : List ℕ) → In z l → elemb z l ≡ true
-in-elem z [] m = absurd m
-in-elem z (x ∷ xs) (inl e) = rw (eq-eqb z x e)
-in-elem z (x ∷ xs) (inr m) = by-test (eqb z x) (λ e. rw e) (λ e. rw e (in-elem z xs m))
 
 -- ---- nets
 pub marks-cons : (m : List ℕ) (c : Record) (cs : List Record) → markCells m (c ∷ cs) ≡ markCells (markAll m (usesOf c)) cs

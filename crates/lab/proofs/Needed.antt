@@ -24,7 +24,8 @@ use Rattle.route.specs.Table.{CLK, ENA, ACLR, SCLR, SLOAD}
 use Rattle.lab.specs.Ports.{clk, ena, aclr, sclr, sload, used, counted, clock, clockPair, clear, pair, inUse, needed, inLab, inputs}
 use Rattle.lab.specs.Rules.{tooManyClocks, tooManyPairs, tooManyClears, tooManySynchronous, needsOfRole, needs}
 use Rattle.lab.specs.Counts.{countsOf, onlyCode, needsHeld, Fit, AllFit}
-use Rattle.lab.proofs.Folded.{in-append, append-in, in-elem}
+use Rattle.lab.proofs.Folded.{in-append, append-in}
+use Rattle.distinct.proofs.Nets.{in-elem}
 
 -- ---- lists
 module _ {A : Type 0} (p : A → Bool) where

@@ -1,3 +1,6 @@
+pub mod Kept
+pub mod Crowd
 pub mod Sheets
+pub mod Agrees
 pub mod Taken
 pub mod Walk

@@ -1,26 +1,33 @@
--- Records of a list that are records of a sheet say what they say there, and a list of a LAB's records has the LAB's result.
+-- Records of a list that are records of a sheet say what they say there, a list of few fit ones passes 18, and one that passes has the LAB's result.
 -- Assumes nothing.
 use Prim.Native.Nat.{ℕ, _≤_}
-use mathlib.Core.Path.{_≡_, refl, sym}
+use mathlib.Core.Path.{_≡_, refl, sym, ap, _∙_}
+use mathlib.Core.Logic.{inl, inr}
 use mathlib.Core.Bool.{Bool, true, false, not, _&&_, _||_, true≢false}
 use mathlib.Core.List.{List, [], _∷_, map}
 use native.Mathlib.Omega.{arith}
-use lib.ListN.{length}
+use lib.ListN.{length, length-map}
 use lib.Dec.{eqb, ltb, leb}
-use borrow.Author.Tests.{lt-leb}
+use borrow.Author.Tests.{lt-leb, le-ltb}
+use Rattle.sheet.specs.Lists.{anyb}
+use Rattle.sheet.specs.Checks.{firstNumber}
 use Rattle.sheet.specs.Signal.{connected, isNet, netOf, isInverted, isBad, isBadOutput}
 use Rattle.sheet.specs.Exercise.{netCount, recordPart}
 use Rattle.sheet.specs.Record.{recordOf, recordAt, isMalformed, kindOf, flagOf, codeAt, combinationalOf, registerOf, badCombinational, badRegister, badTail, keepsCombinational, keepsRegister}
 use Rattle.sheet.specs.declared.CombinationalCell.{CombinationalCell}
 use Rattle.sheet.specs.declared.RegisterCell.{RegisterCell}
+use Rattle.sheet.specs.declared.Record.{Record}
+use Rattle.sheet.specs.declared.Record.the-variants.{Combinational, Register, Malformed}
 use Rattle.sheet.proofs.Laws.{by-test}
-use Rattle.netlist.specs.Cells.{cell}
+use Rattle.distinct.proofs.Rising.{In}
+use Rattle.netlist.specs.Cells.{cell, checksOf, cellChecks}
 use Rattle.netlist.proofs.Below.{or-parts}
 use Rattle.netlist.proofs.Decoded.{good-net}
 use Rattle.route.specs.Table.{Table}
 use Rattle.lab.specs.Rules.{labResult}
 use Rattle.lab_list.specs.declared.CellRecord.{CellRecord}
-use Rattle.lab_list.specs.ListCheck.{bytesOf, recordFrom, noList, listVerdict}
+use Rattle.lab_list.specs.ListCheck.{bytesOf, recordFrom, unfit, noList, listVerdict}
+use Rattle.lab_list.specs.Agreement.{Copies}
 use Rattle.lab_list.proofs.Taken.{list-is-lab}
 
 or-less : (a a′ b b′ : Bool) → (a ≡ false → a′ ≡ false) → (b ≡ false → b′ ≡ false) → (a || b) ≡ false → (a′ || b′) ≡ false
@@ -109,19 +116,46 @@ pub record-of-sheet : (e : List ℕ) (i : ℕ) (c : CellRecord) → netCount e �
 unfolding recordFrom cell recordAt
 record-of-sheet e i c few same m = rw same (decoded-same (netCount e) few (recordPart e i) m)
 
--- the records are those of the cells with these numbers, in order, and none is malformed
-abbrev pub Copies : List ℕ → List ℕ → List CellRecord → Type 0
-Copies e [] [] = Unit {0}
-Copies e [] (c ∷ cs) = ⊥
-Copies e (i ∷ is) [] = ⊥
-Copies e (i ∷ is) (c ∷ cs) = (bytesOf c ≡ recordPart e i) × (isMalformed (cell e i) ≡ false) × Copies e is cs
+-- none of the cells with these numbers is malformed
+abbrev pub Whole : List ℕ → List ℕ → Type 0
+Whole e is = (i : ℕ) → In i is → isMalformed (cell e i) ≡ false
 
-pub records-of-sheet : (e is : List ℕ) (cs : List CellRecord) → netCount e ≤ 1024 → Copies e is cs → map recordFrom cs ≡ map (cell e) is
-records-of-sheet e [] [] few h = refl
-records-of-sheet e [] (c ∷ cs) few h = absurd h
-records-of-sheet e (i ∷ is) [] few h = absurd h
-records-of-sheet e (i ∷ is) (c ∷ cs) few h = rw (record-of-sheet e i c few (h .0) (h .1), records-of-sheet e is cs few (h .2))
+-- each of them keeps 30 to 44
+abbrev pub Keeping : List ℕ → List ℕ → Type 0
+Keeping e is = (i : ℕ) → In i is → firstNumber (cellChecks e i) ≡ 0
+
+pub records-of-sheet : (e is : List ℕ) (cs : List CellRecord) → netCount e ≤ 1024 → Whole e is → Copies e is cs → map recordFrom cs ≡ map (cell e) is
+unfolding Copies
+records-of-sheet e [] [] few whole h = refl
+records-of-sheet e [] (c ∷ cs) few whole h = absurd h
+records-of-sheet e (i ∷ is) [] few whole h = absurd h
+records-of-sheet e (i ∷ is) (c ∷ cs) few whole h =
+    rw (record-of-sheet e i c few (h .0) (whole i (inl refl)), records-of-sheet e is cs few (λ j m. whole j (inr m)) (h .1))
 
 -- the list of a LAB's records of a sheet, where it passes 18, has the result of that LAB
-pub list-of-sheet : (t : Table) (e is : List ℕ) (cs : List CellRecord) → netCount e ≤ 1024 → Copies e is cs → noList cs ≡ false → listVerdict t cs ≡ labResult t (map (cell e) is)
-list-of-sheet t e is cs few h passes = list-is-lab t (map (cell e) is) cs (records-of-sheet e is cs few h) passes
+pub list-of-sheet : (t : Table) (e is : List ℕ) (cs : List CellRecord) → netCount e ≤ 1024 → Whole e is → Copies e is cs → noList cs ≡ false → listVerdict t cs ≡ labResult t (map (cell e) is)
+list-of-sheet t e is cs few whole h passes = list-is-lab t (map (cell e) is) cs (records-of-sheet e is cs few whole h) passes
+
+-- ---- 18
+fit-of-kind : (e : List ℕ) (i : ℕ) (c : Record) → isMalformed c ≡ false → firstNumber (checksOf e i c) ≡ 0 → unfit c ≡ false
+unfolding unfit
+fit-of-kind e i (Combinational c) m h = refl
+fit-of-kind e i (Register r) m h = rw h
+fit-of-kind e i Malformed m h = absurd (true≢false m)
+
+-- a whole cell that keeps 30 to 44 is fit
+fit-cell : (e : List ℕ) (i : ℕ) → isMalformed (cell e i) ≡ false → firstNumber (cellChecks e i) ≡ 0 → unfit (cell e i) ≡ false
+unfolding cellChecks
+fit-cell e i m h = fit-of-kind e i (cell e i) m h
+
+none-unfit : (e is : List ℕ) → ((i : ℕ) → In i is → unfit (cell e i) ≡ false) → anyb unfit (map (cell e) is) ≡ false
+none-unfit e [] h = refl
+none-unfit e (i ∷ is) h = rw (h i (inl refl)) (none-unfit e is (λ j m. h j (inr m)))
+
+-- the list of at most 32 whole cells that keep 30 to 44 passes 18
+pub passes-18 : (e is : List ℕ) (cs : List CellRecord) → netCount e ≤ 1024 → Whole e is → Keeping e is → length is ≤ 32 → Copies e is cs → noList cs ≡ false
+unfolding noList
+passes-18 e is cs few whole keeps short h =
+    let same = records-of-sheet e is cs few whole h in
+    let long : length cs ≡ length is = sym (length-map cs recordFrom) ∙ ap length same ∙ length-map is (cell e) in
+    rw (le-ltb 32 (length cs) (omega arith), same) (none-unfit e is (λ i m. fit-cell e i (whole i m) (keeps i m)))

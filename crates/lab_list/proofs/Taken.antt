@@ -1,32 +1,32 @@
 -- The records of a list, taken one by one, give the verdict of the list: 18, or what the rules of a LAB say of its cells.
 -- Assumes nothing.
-use Prim.Native.Nat.{ℕ, suc, _<_}
+use Prim.Native.Nat.{ℕ}
 use mathlib.Core.Path.{_≡_, refl, sym, _∙_}
-use mathlib.Core.Bool.{Bool, true, false, cond, not, _&&_, _||_, true≢false}
-use mathlib.Core.List.{List, [], _∷_, _++_, map}
+use mathlib.Core.Bool.{Bool, true, false, not, _&&_, _||_}
+use mathlib.Core.List.{List, [], _∷_, map}
 use native.Mathlib.Omega.{arith}
 use lib.ListN.{length, replicate}
-use lib.Dec.{eqb, ltb}
-use borrow.Author.Tests.{eqb-true, leb-false, not-false}
-use Rattle.sheet.specs.Lists.{anyb, elemb}
+use lib.Dec.{ltb}
+use borrow.Author.Tests.{eqb-true, not-false}
+use Rattle.sheet.specs.Lists.{anyb}
 use Rattle.sheet.specs.Checks.{firstNumber}
-use Rattle.sheet.specs.Signal.{connected, isNet, isBad, isBadOutput}
 use Rattle.sheet.specs.declared.RegisterCell.{RegisterCell}
 use Rattle.sheet.specs.declared.Record.{Record}
-use Rattle.sheet.specs.declared.Record.the-variants.{Combinational, Register, Malformed}
+use Rattle.sheet.specs.declared.Record.the-variants.{Register}
 use Rattle.sheet.proofs.Laws.{by-test}
 use Rattle.distinct.specs.Nets.{markAll, readMarks}
 use Rattle.route.specs.Table.{Table}
 use Rattle.route.specs.Search.{searchFrom}
 use Rattle.route.specs.Route.{firstWay, eightBytes, labRouteOf}
-use Rattle.lab.specs.Ports.{clk, ena, inputs, inLab, netsIn}
+use Rattle.lab.specs.Ports.{inLab, netsIn}
 use Rattle.lab.specs.Rules.{tooManyClocks, tooManyPairs, tooManyClears, tooManySynchronous, tooManyNets, needs, noWay, routeOf, labNumber, labResult}
 use Rattle.lab.specs.Counts.{noCounts, countsAll, markCells, refused, resultFrom, Fit, AllFit}
 use Rattle.lab.proofs.Folded.{counts-are, marks-cons, nets-are}
 use Rattle.lab.proofs.Result.{result-is}
-use Rattle.netlist.specs.Cells.{allInputs, clockWithoutOutput, clearWithoutClock, loadWithoutClock, loadWithoutData, enableWithoutClock, registerChecks}
+use Rattle.netlist.specs.Cells.{registerChecks}
 use Rattle.netlist.proofs.Below.{or-parts}
-use Rattle.netlist.proofs.Decoded.{inputs-good, outputs-good, good-net, good-output}
+use Rattle.netlist.proofs.Decoded.{inputs-good, outputs-good}
+use Rattle.judge.proofs.FitCells.{small-input, small-output, input-of-all, enable-clocked}
 use Rattle.lab_list.specs.declared.CellRecord.{CellRecord}
 use Rattle.lab_list.specs.declared.ListState.{ListState}
 use Rattle.lab_list.specs.ListCheck.{bytesOf, recordFrom, unfit, noList, listNumber, listVerdict, noState, stateWith, stateAll, finished}
@@ -61,37 +61,6 @@ marks-all s [] = marks-none (s .marks)
 marks-all s (c ∷ cs) = marks-all (stateWith s c) cs ∙ sym (marks-cons (s .marks) (recordFrom c) (map recordFrom cs))
 
 -- ---- fit records
-small-input : (s : ℕ) → isBad 1024 s ≡ false → s < 2052
-small-input s h = by-test (isNet s) (λ n. omega (arith, good-net 1024 s h n)) (λ n. omega (arith, leb-false 4 s n))
-
-small-output : (s : ℕ) → isBadOutput 1024 s ≡ false → s < 2052
-small-output s h =
-    by-test (eqb s 0) (λ q. omega (arith, eqb-true s 0 q)) (λ q. omega (arith, good-output 1024 s h (rw q) .2))
-
-elem-more : (s : ℕ) (xs ys : List ℕ) → elemb s xs ≡ true → elemb s (xs ++ ys) ≡ true
-elem-more s [] ys m = absurd (true≢false (sym m))
-elem-more s (x ∷ xs) ys m = by-test (eqb s x) (λ e. rw e) (λ e. rw e (elem-more s xs ys (rw e at m)))
-
--- the inputs without cin are inputs
-input-of-all : (s : ℕ) (c : Record) → elemb s (inputs c) ≡ true → elemb s (allInputs c) ≡ true
-unfolding inputs allInputs
-input-of-all s (Combinational c) m = elem-more s (inputs (Combinational c)) (c .cin .0 ∷ []) m
-input-of-all s (Register r) m = m
-input-of-all s Malformed m = m
-
-passed : (b : Bool) (n later : ℕ) → cond b (suc n) later ≡ 0 → (b ≡ false) × (later ≡ 0)
-passed true n later h = absurd (omega arith)
-passed false n later h = (refl, h)
-
--- 34
-enable-clocked : (r : RegisterCell) → firstNumber (registerChecks r) ≡ 0 → connected (ena r) ≡ true → connected (clk r) ≡ true
-enable-clocked r h on =
-    let after30 = passed (clockWithoutOutput r) 29 _ h .1 in
-    let after31 = passed (clearWithoutClock r) 30 _ after30 .1 in
-    let after32 = passed (loadWithoutClock r) 31 _ after31 .1 in
-    let after33 = passed (loadWithoutData r) 32 _ after32 .1 in
-    not-false (connected (clk r)) (rw on at (passed (enableWithoutClock r) 33 _ after33 .0))
-
 register-kept : (r : RegisterCell) → unfit (Register r) ≡ false → firstNumber (registerChecks r) ≡ 0
 unfolding unfit
 register-kept r h = eqb-true _ _ (not-false _ h)
@@ -99,8 +68,8 @@ register-kept r h = eqb-true _ _ (not-false _ h)
 record-fit : (c : CellRecord) → unfit (recordFrom c) ≡ false → Fit (recordFrom c)
 unfolding recordFrom
 record-fit c h = record {
-  small-inputs = λ s m. small-input s (inputs-good 1024 (bytesOf c) s (input-of-all s (recordFrom c) m));
-  small-outputs = λ s m. small-output s (outputs-good 1024 (bytesOf c) s m);
+  small-inputs = λ s m. small-input 1024 s (omega arith) (inputs-good 1024 (bytesOf c) s (input-of-all s (recordFrom c) m));
+  small-outputs = λ s m. small-output 1024 s (omega arith) (outputs-good 1024 (bytesOf c) s m);
   clocked = λ r q. enable-clocked r (register-kept r (rw q at h));
 }
 

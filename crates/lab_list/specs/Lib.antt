@@ -1,1 +1,2 @@
 pub mod ListCheck
+pub mod Agreement

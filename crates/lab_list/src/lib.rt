@@ -7,6 +7,7 @@ ghost use Rattle.lab.specs.Counts.{refused};
 ghost use Rattle.lab_list.specs.ListCheck.{lowByte, highByte, bytesOf, recordFrom, unfit, noState, stateWith, finished, listVerdict};
 
 // The fields of a cell's record: kind, flag, eleven signals.
+#[repr(C)]
 pub struct CellRecord {
     pub kind: u8,
     pub flag: u8,

@@ -1,2 +1,5 @@
+pub mod Kind
+pub mod NextWalk
+pub mod ReadWalk
 pub mod Steps
 pub mod Whole

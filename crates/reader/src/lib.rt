@@ -111,19 +111,14 @@ pub fn open_exercise<'a>(sheet: &'a [u8]) -> ExerciseReader<'a>
     ExerciseReader { sheet, at: 0 }
 }
 
-// The next record of an exercise.
-pub fn next_record<'a>(r: ExerciseReader<'a>) -> ExerciseStep
-    ensures { λ s. ⌜ s ≡ exerciseStepAt (now (r .entry .sheet)) (r .entry .at) ⌝ }
+// Gives the next record of an exercise and moves on. At the end, and at a record that breaks its layout, it says so and stays put.
+pub fn next_record<'s, 'a>(r: &'s mut ExerciseReader<'a>) -> ExerciseStep
+    ensures given { λ s. ⌜ s ≡ exerciseStepAt (now (now (r .entry) .sheet)) (now (r .entry) .at) ⌝ }
+    ensures moved { λ _. ⌜ (now (r .exit) .sheet ≡ now (r .entry) .sheet) × (now (r .exit) .at ≡ nextExercise (now (now (r .entry) .sheet)) (now (r .entry) .at)) ⌝ }
 {
-    exercise_step(r.sheet, r.at)
-}
-
-// The reader of an exercise, moved on. It stays put at the end, and at a record that breaks its layout.
-pub fn after_record<'a>(r: ExerciseReader<'a>) -> ExerciseReader<'a>
-    ensures { λ q. ⌜ (q .sheet ≡ r .entry .sheet) × (q .at ≡ nextExercise (now (r .entry .sheet)) (r .entry .at)) ⌝ }
-{
-    let at = exercise_next(r.sheet, r.at);
-    ExerciseReader { sheet: r.sheet, at }
+    let step = exercise_step(r.sheet, r.at);
+    r.at = exercise_next(r.sheet, r.at);
+    step
 }
 
 // A reader of an answer, before its first record.
@@ -133,31 +128,40 @@ pub fn open_answer<'a>(sheet: &'a [u8]) -> AnswerReader<'a>
     AnswerReader { sheet, at: 0 }
 }
 
-// The next place record of an answer.
-pub fn next_place<'a>(r: AnswerReader<'a>) -> AnswerStep
-    ensures { λ s. ⌜ s ≡ answerStepAt (now (r .entry .sheet)) (r .entry .at) ⌝ }
+// Gives the next place record of an answer and moves on, or says the end or a broken record and stays put.
+pub fn next_place<'s, 'a>(r: &'s mut AnswerReader<'a>) -> AnswerStep
+    ensures given { λ s. ⌜ s ≡ answerStepAt (now (now (r .entry) .sheet)) (now (r .entry) .at) ⌝ }
+    ensures moved { λ _. ⌜ (now (r .exit) .sheet ≡ now (r .entry) .sheet) × (now (r .exit) .at ≡ nextAnswer (now (now (r .entry) .sheet)) (now (r .entry) .at)) ⌝ }
 {
-    answer_step(r.sheet, r.at)
+    let step = answer_step(r.sheet, r.at);
+    r.at = answer_next(r.sheet, r.at);
+    step
 }
 
-// The reader of an answer, moved on.
-pub fn after_place<'a>(r: AnswerReader<'a>) -> AnswerReader<'a>
-    ensures { λ q. ⌜ (q .sheet ≡ r .entry .sheet) × (q .at ≡ nextAnswer (now (r .entry .sheet)) (r .entry .at)) ⌝ }
+// Reads one record of an exercise through a reader that stands at a number, and moves the number on.
+pub fn read_record(exercise: &[u8], at: &mut u16) -> ExerciseStep
+    ensures given { λ s. ⌜ s ≡ exerciseStepAt (now (exercise .entry)) (now (at .entry)) ⌝ }
+    ensures moved { λ _. ⌜ now (at .exit) ≡ nextExercise (now (exercise .entry)) (now (at .entry)) ⌝ }
 {
-    let at = answer_next(r.sheet, r.at);
-    AnswerReader { sheet: r.sheet, at }
+    let mut r = ExerciseReader {
+        sheet: exercise,
+        at: *at,
+    };
+    let step = next_record(&mut r);
+    *at = r.at;
+    step
 }
 
-// An exercise's first record. Its contract says nothing of a reader.
-pub fn first_record(exercise: &[u8]) -> ExerciseStep
-    ensures { λ s. ⌜ s ≡ exerciseStepAt (now (exercise .entry)) 0 ⌝ }
+// Reads one place record of an answer the same way.
+pub fn read_place(answer: &[u8], at: &mut u16) -> AnswerStep
+    ensures given { λ s. ⌜ s ≡ answerStepAt (now (answer .entry)) (now (at .entry)) ⌝ }
+    ensures moved { λ _. ⌜ now (at .exit) ≡ nextAnswer (now (answer .entry)) (now (at .entry)) ⌝ }
 {
-    next_record(open_exercise(exercise))
-}
-
-// An answer's first place.
-pub fn first_place(answer: &[u8]) -> AnswerStep
-    ensures { λ s. ⌜ s ≡ answerStepAt (now (answer .entry)) 0 ⌝ }
-{
-    next_place(open_answer(answer))
+    let mut r = AnswerReader {
+        sheet: answer,
+        at: *at,
+    };
+    let step = next_place(&mut r);
+    *at = r.at;
+    step
 }

@@ -2,10 +2,10 @@
 use Prim.Native.Nat.{ℕ, _+_, _-_, _*_, _/_, _%_, _≤_, _<_}
 use native.Mathlib.Omega.{arith}
 use mathlib.Core.Path.{_≡_, refl, sym, ap, _∙_}
-use mathlib.Core.Bool.{Bool, true, false, cond, not, _&&_, true≢false}
+use mathlib.Core.Bool.{Bool, true, false, cond, not, _&&_, _||_, true≢false}
 use lib.Dec.{eqb, leb}
 use borrow.Author.Tests.{leb-true, leb-false, eqb-true, eqb-false, eq-eqb, ne-eqb, le-leb, lt-leb}
-use Rattle.sheet.specs.Signal.{isNet, isInverted, inverseOf}
+use Rattle.sheet.specs.Signal.{isNet, netOf, isInverted, inverseOf, isBad}
 use Rattle.sheet.proofs.Laws.{by-test}
 
 and-parts : (a b : Bool) → a && b ≡ true → (a ≡ true) × (b ≡ true)
@@ -48,3 +48,17 @@ inverse-inverse s =
     (λ n. rw (g, v, i, n)
     (let m = leb-true 4 s n in inverted-tests (s + 1) (omega arith) (odd-after s (upright-even s n i)) ∙ omega arith))
     (λ n. rw (g, v, i, n, g, v, i, n)))))
+
+-- a net is not below the net count where its code is not below the first code after them
+over-limit : (nets s : ℕ) → leb (2 * nets + 4) s ≡ (isNet s && leb nets (netOf s))
+over-limit nets s =
+    by-test (isNet s)
+    (λ n.
+    let four : 4 ≤ s = leb-true 4 s n in
+    by-test (leb nets (netOf s))
+    (λ h. let most = leb-true nets (netOf s) h in rw (n, h, le-leb (2 * nets + 4) s (omega arith)))
+    (λ h. let few = leb-false nets (netOf s) h in rw (n, h, lt-leb (2 * nets + 4) s (omega arith))))
+    (λ n. let small : s < 4 = leb-false 4 s n in rw (n, lt-leb (2 * nets + 4) s (omega arith)))
+
+pub bad-by-code : (nets s : ℕ) → (eqb s 3 || leb (2 * nets + 4) s) ≡ isBad nets s
+bad-by-code nets s = rw (over-limit nets s)

@@ -107,9 +107,11 @@ impl Signal {
     pub fn is_bad(self, nets: u16) -> bool
         ensures { λ r. ⌜ r ≡ isBad nets (self .0) ⌝ }
     {
-        let reserved = self.0 == 3;
-        let over = nets <= self.net();
-        reserved | (self.is_net() & over)
+        let code = self.0 as u32;
+        let limit = 2 * (nets as u32) + 4;
+        let reserved = code == 3;
+        let over = limit <= code;
+        reserved | over
     }
 
     // As an output: neither unconnected nor an uninverted net of the exercise.

@@ -1,0 +1,84 @@
+/* Reads two files record by record and checks each occupied LAB by itself.
+ *
+ *     cc -o labs c/labs.c target/staticlib/libc_api.a && ./labs exercise.lxe answer.lxa */
+#include "nurimkkot.h"
+
+#include <stdio.h>
+
+#define EXERCISE_ROOM 12298
+#define ANSWER_ROOM 2060
+#define CELLS 512
+#define LABS 1024
+
+static size_t read_file(const char *path, uint8_t *bytes, size_t room)
+{
+    FILE *file = fopen(path, "rb");
+    size_t length;
+    if (file == NULL)
+        return 0;
+    length = fread(bytes, 1, room, file);
+    fclose(file);
+    return length;
+}
+
+/* All cells of an exercise that opens; -1 where a record breaks the layout. */
+static int read_cells(const uint8_t *exercise, size_t length, struct nurimkkot_cell *cells)
+{
+    uint16_t at = 0, fields[NURIMKKOT_CELL_FIELDS];
+    int count = 0, i;
+    uint8_t said;
+    while ((said = nurimkkot_next_cell(exercise, length, &at, fields)) == NURIMKKOT_GIVEN) {
+        cells[count].kind = (uint8_t)fields[0];
+        cells[count].flag = (uint8_t)fields[1];
+        for (i = 0; i < 11; i++)
+            cells[count].signals[i] = fields[2 + i];
+        count++;
+    }
+    return said == NURIMKKOT_END ? count : -1;
+}
+
+int main(int argc, char **argv)
+{
+    static uint8_t exercise[EXERCISE_ROOM], answer[ANSWER_ROOM];
+    static struct nurimkkot_cell cells[CELLS], own[CELLS];
+    static uint16_t lab_of[CELLS];
+    uint16_t at = 0, place[NURIMKKOT_PLACE_FIELDS];
+    uint8_t number, said, route[8];
+    size_t exercise_length, answer_length, count;
+    int n, i, lab;
+
+    if (argc != 3) {
+        fprintf(stderr, "usage: labs EXERCISE ANSWER\n");
+        return 2;
+    }
+    exercise_length = read_file(argv[1], exercise, sizeof exercise);
+    answer_length = read_file(argv[2], answer, sizeof answer);
+    if ((number = nurimkkot_open_exercise(exercise, exercise_length)) != 0 ||
+        (number = nurimkkot_open_answer(answer, answer_length)) != 0) {
+        printf("number %d\n", number);
+        return 0;
+    }
+    n = read_cells(exercise, exercise_length, cells);
+    if (n < 0) {
+        printf("number 15\n");
+        return 0;
+    }
+    while ((said = nurimkkot_next_place(answer, answer_length, &at, place)) == NURIMKKOT_GIVEN && at <= n)
+        lab_of[at - 1] = (uint16_t)(32 * place[1] + place[0]);
+    if (said != NURIMKKOT_END || at != n) {
+        printf("number %d\n", said == NURIMKKOT_BROKEN ? 26 : 24);
+        return 0;
+    }
+    for (lab = 0; lab < LABS; lab++) {
+        count = 0;
+        for (i = 0; i < n; i++)
+            if (lab_of[i] == lab)
+                own[count++] = cells[i];
+        if (count == 0)
+            continue;
+        number = nurimkkot_check_lab(own, count, route);
+        printf("lab %d number %d route %d %d %d %d %d %d %d %d\n", lab, number, route[0], route[1], route[2], route[3], route[4],
+               route[5], route[6], route[7]);
+    }
+    return 0;
+}
