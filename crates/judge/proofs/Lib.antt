@@ -11,5 +11,6 @@ pub mod Demand1
 pub mod Demand2
 pub mod Refusal65
 pub mod Demand3
+pub mod CulpritInside
 pub mod Steps
 pub mod Ring

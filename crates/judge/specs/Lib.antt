@@ -1,3 +1,4 @@
 pub mod Judge
 pub mod Demands
 pub mod Stages
+pub mod Culprit
