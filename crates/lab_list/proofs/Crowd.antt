@@ -3,14 +3,12 @@ use Prim.Native.Nat.{ℕ, _+_, _*_, _-_, _≤_, _<_}
 use mathlib.Core.Path.{_≡_, refl, sym, ap, _∙_}
 use mathlib.Core.Bool.{Bool, false, not, _&&_, true≢false}
 use mathlib.Core.List.{List}
-use native.Mathlib.Nat.{add-zero}
 use native.Mathlib.Omega.{arith}
-use lib.ListN.{length, drop}
-use lib.Seq.{getD-take, getD-drop}
+use lib.ListN.{length}
 use lib.Dec.{eqb}
 use borrow.Author.Tests.{eqb-true, eq-eqb}
 use Rattle.sheet.specs.Lists.{below, firstFrom}
-use Rattle.sheet.specs.Exercise.{cellCount, recordStart, recordPart, netCount}
+use Rattle.sheet.specs.Exercise.{cellCount, recordPart, netCount}
 use Rattle.sheet.specs.Record.{recordOf, recordAt, isMalformed, kindOf}
 use Rattle.sheet.proofs.Laws.{by-test}
 use Rattle.sheet.proofs.Scan.{any-below}
@@ -20,7 +18,7 @@ use Rattle.distinct.proofs.Nets.{from-above, in-from, from-in}
 use Rattle.netlist.specs.Cells.{cell}
 use Rattle.netlist.proofs.Below.{and-parts}
 use Rattle.placing.specs.Places.{kindAt, xAt, yAt, leAt, labAt, samePlace, placeTaken}
-use Rattle.placing.proofs.Places.{in-range}
+use Rattle.placing.proofs.Places.{in-range, kind-of-record}
 use Rattle.labs.specs.Members.{members}
 use Rattle.judge.proofs.Sound.{none-below}
 use Rattle.judge.proofs.Refusal65.{first-is}
@@ -51,12 +49,9 @@ kind-known n p m =
     (λ k. by-test (eqb (kindOf p) 2) (λ r. let q = eqb-true (kindOf p) 2 r in (omega arith, omega arith))
     (λ r. by-test (not (eqb (length p) 24)) (λ w. absurd (true≢false (rw w at m))) (λ w. absurd (true≢false (rw (w, k, r) at m)))))
 
-kind-part : (e : List ℕ) (i : ℕ) → kindOf (recordPart e i) ≡ kindAt e i
-kind-part e i = simp add-zero at (getD-take 24 (drop (recordStart i) e) 0 0 (omega arith) ∙ getD-drop (recordStart i) e 0 0)
-
 kind-at : (e : List ℕ) (i : ℕ) → isMalformed (cell e i) ≡ false → (1 ≤ kindAt e i) × (kindAt e i ≤ 2)
 unfolding cell recordAt
-kind-at e i m = rw (kind-part e i) at (kind-known (netCount e) (recordPart e i) m)
+kind-at e i m = rw (kind-of-record e i) at (kind-known (netCount e) (recordPart e i) m)
 
 -- kind and LE as one number
 code : List ℕ → List ℕ → ℕ → ℕ

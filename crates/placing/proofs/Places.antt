@@ -9,19 +9,21 @@ use mathlib.Core.List.{List}
 use lib.ListN.{length, drop}
 use lib.Seq.{getD-take, getD-drop}
 use lib.Dec.{eqb, ltb}
-use borrow.Author.Tests.{ltb-false, eqb-true}
+use borrow.Author.Tests.{ltb-false, ltb-true, lt-leb, eqb-true, not-true}
 use mathlib.Core.Logic.{_⊎_, ⊎-elim}
 use denote.Enum.Declared.{tagOf, declared}
 use Rattle.sheet.proofs.Laws.{by-test}
 use Rattle.sheet.proofs.Record.{enum}
-use Rattle.sheet.specs.Record.{recordAt}
+use Rattle.sheet.specs.Signal.{isNet}
+use Rattle.sheet.specs.Exercise.{recordStart, recordPart}
+use Rattle.sheet.specs.Record.{recordOf, recordAt, kindOf, codeAt, keepsCombinational, keepsRegister}
 use Rattle.sheet.specs.declared.Record.{Record}
 use Rattle.sheet.specs.declared.Record.the-variants.{Combinational, Register, Malformed}
 use Rattle.sheet.specs.Bytes.{byteAt, partAt}
 use Rattle.sheet.specs.Answer.{placeStart, placePart, outOfRange, placedOf, placedAt}
 use Rattle.sheet.specs.declared.Placed.{Placed}
-use Rattle.sheet.specs.declared.Placed.the-variants.{At, OutOfRange}
-use Rattle.placing.specs.Places.{xAt, yAt, leAt, labAt, isOutOfRange, outOfRangeAt, follows, detachedBy, detachedAt}
+use Rattle.sheet.specs.declared.Placed.the-variants.{OutOfRange}
+use Rattle.placing.specs.Places.{kindAt, xAt, yAt, leAt, labAt, isOutOfRange, outOfRangeAt, follows, detachedBy, unfedAt, detachedAt}
 
 pub both : (p q : Bool) → p && q ≡ true → (p ≡ true) × (q ≡ true)
 both true q h = (refl, h)
@@ -94,3 +96,43 @@ not-fed drivers a i Malformed h = refl
 pub detached-told : (drivers a : List ℕ) (nets : ℕ) (e : List ℕ) (i : ℕ) (cell : Record) (b : Bool) → cell ≡ recordAt nets e i → b ≡ detachedBy drivers a i cell → b ≡ detachedAt drivers a nets e i
 unfolding detachedAt
 detached-told drivers a nets e i cell b h k = k ∙ ap (detachedBy drivers a i) h
+
+-- ---- a cell that its bytes show to be unfed
+byte-of-record : (e : List ℕ) (i k : ℕ) → k < 24 → byteAt (recordPart e i) k ≡ byteAt e (recordStart i + k)
+byte-of-record e i k h = getD-take 24 (drop (recordStart i) e) k 0 h ∙ getD-drop (recordStart i) e k 0
+
+pub kind-of-record : (e : List ℕ) (i : ℕ) → kindOf (recordPart e i) ≡ kindAt e i
+kind-of-record e i = simp add-zero at (byte-of-record e i 0 (omega arith))
+
+cin-low : (e : List ℕ) (i : ℕ) → ltb (byteAt e (recordStart i + 10)) 4 ≡ true → eqb (byteAt e (recordStart i + 11)) 0 ≡ true → isNet (codeAt (recordPart e i) 4) ≡ false
+cin-low e i h z =
+    let low = ltb-true (byteAt e (recordStart i + 10)) 4 h in
+    let high = eqb-true (byteAt e (recordStart i + 11)) 0 z in
+    rw (byte-of-record e i 10 (omega arith), byte-of-record e i 11 (omega arith)) (lt-leb 4 (byteAt e (recordStart i + 10) + 256 * byteAt e (recordStart i + 11)) (omega arith))
+
+or-cases : {G : Type 0} (a b : Bool) → a || b ≡ true → (a ≡ true → G) → (b ≡ true → G) → G
+or-cases true b h f g = f refl
+or-cases false b h f g = g h
+
+none-fed : (drivers a : List ℕ) (nets i : ℕ) (p : List ℕ) → eqb (kindOf p) 1 ≡ false → false ≡ detachedBy drivers a i (recordOf nets p)
+unfolding recordOf detachedBy
+none-fed drivers a nets i p k =
+    by-test (not (eqb (length p) 24)) (λ l. rw l)
+    (λ l. by-test (eqb (kindOf p) 2)
+    (λ r. by-test (keepsRegister nets p) (λ h. rw (l, k, r, h)) (λ h. rw (l, k, r, h)))
+    (λ r. rw (l, k, r)))
+
+open-unfed : (drivers a : List ℕ) (nets i : ℕ) (p : List ℕ) → isNet (codeAt p 4) ≡ false → false ≡ detachedBy drivers a i (recordOf nets p)
+unfolding recordOf detachedBy
+open-unfed drivers a nets i p n =
+    by-test (eqb (kindOf p) 1)
+    (λ k. by-test (not (eqb (length p) 24)) (λ l. rw l)
+    (λ l. by-test (keepsCombinational nets p) (λ h. rw (l, k, h, n)) (λ h. rw (l, k, h))))
+    (λ k. none-fed drivers a nets i p k)
+
+pub unfed-stands : (drivers a : List ℕ) (nets : ℕ) (e : List ℕ) (i : ℕ) → unfedAt e i ≡ true → false ≡ detachedAt drivers a nets e i
+unfolding unfedAt detachedAt recordAt
+unfed-stands drivers a nets e i h =
+    or-cases (not (eqb (kindAt e i) 1)) (ltb (byteAt e (recordStart i + 10)) 4 && eqb (byteAt e (recordStart i + 11)) 0) h
+    (λ k. none-fed drivers a nets i (recordPart e i) (rw (kind-of-record e i) (not-true (eqb (kindAt e i) 1) k)))
+    (λ c. let b = both (ltb (byteAt e (recordStart i + 10)) 4) (eqb (byteAt e (recordStart i + 11)) 0) c in open-unfed drivers a nets i (recordPart e i) (cin-low e i (b .0) (b .1)))

@@ -1,9 +1,9 @@
 -- Document 01, "Places": rules 26 and 50, and what 51 asks of two places. `e` is the exercise, `a` the answer, `i` the number of the cell
 -- that is looked at. Each rule is true where its line is. Assumes nothing.
 use Prim.Native.Nat.{ℕ, _+_, _*_}
-use mathlib.Core.Bool.{Bool, true, false, cond, not, _&&_}
+use mathlib.Core.Bool.{Bool, true, false, cond, not, _&&_, _||_}
 use mathlib.Core.List.{List}
-use lib.Dec.{eqb}
+use lib.Dec.{eqb, ltb}
 use Rattle.sheet.specs.Lists.{anyb, below}
 use Rattle.sheet.specs.Bytes.{byteAt}
 use Rattle.sheet.specs.Signal.{isNet, isInverted}
@@ -64,6 +64,10 @@ detachedBy drivers a i (Combinational c) =
     && not (follows a (cellFor drivers (c .cin .0)) i)
 detachedBy drivers a i (Register r) = false
 detachedBy drivers a i Malformed = false
+
+-- the bytes of cell i show that nothing feeds it: it is not combinational, or its cin is no net
+unfoldable pub unfedAt : List ℕ → ℕ → Bool
+unfedAt e i = not (eqb (kindAt e i) 1) || ltb (byteAt e (recordStart i + 10)) 4 && eqb (byteAt e (recordStart i + 11)) 0
 
 -- 51 at cell i of the sheets
 unfoldable pub detachedAt : List ℕ → List ℕ → ℕ → List ℕ → ℕ → Bool

@@ -7,7 +7,7 @@ ghost use Prim.Native.Nat.{_+_, _*_, _<_};
 ghost use lib.ListN.{replicate};
 ghost use Rattle.sheet.specs.Lists.{firstFrom};
 ghost use Rattle.sheet.specs.Record.{recordAt};
-ghost use Rattle.placing.specs.Places.{kindAt, xAt, yAt, leAt, labAt, outOfRangeAt, samePlace, placeTaken, follows, detachedBy, detachedAt};
+ghost use Rattle.placing.specs.Places.{kindAt, xAt, yAt, leAt, labAt, outOfRangeAt, samePlace, placeTaken, follows, detachedBy, unfedAt, detachedAt};
 ghost use Rattle.placing.specs.Marks.{spot, isPlain, mayClash};
 ghost use Rattle.netlist.specs.Tables.{cellFor};
 
@@ -191,14 +191,39 @@ fn is_detached(drivers: &[u16], answer: &[u8], i: u16, cell: Record) -> bool
     fed & !follows(answer, driver, i)
 }
 
+// Whether the bytes of a record show that nothing feeds its cell: it is not combinational, or its cin is no net.
+fn is_unfed(exercise: &[u8], i: u16) -> bool
+    ensures { λ r. ⌜ r ≡ unfedAt (now (exercise .entry)) i ⌝ }
+{
+    let at = record_start(i);
+    let other = sheet::byte_at(exercise, at) != 1;
+    let low = sheet::byte_at(exercise, at + 10) < 4;
+    let high = sheet::byte_at(exercise, at + 11) == 0;
+    other | (low & high)
+}
+
+// 51 at a cell. A record is decoded only where its bytes show a carry in.
+fn is_detached_at(exercise: &[u8], answer: &[u8], nets: u16, drivers: &[u16], i: u16) -> bool
+    ensures { λ r. ⌜ r ≡ detachedAt (now (drivers .entry)) (now (answer .entry)) nets (now (exercise .entry)) i ⌝ }
+{
+    if is_unfed(exercise, i) {
+        return false;
+    }
+    is_detached(
+        drivers,
+        answer,
+        i,
+        sheet::record_at(exercise, CellNumber(i), nets),
+    )
+}
+
 // 51: the lowest cell that is fed by a cout and does not stand where the carry goes on, or the number of cells.
 pub fn first_detached(exercise: &[u8], answer: &[u8], nets: u16, cells: u16, drivers: &[u16]) -> u16
     ensures { λ r. ⌜ r ≡ firstFrom (detachedAt (now (drivers .entry)) (now (answer .entry)) nets (now (exercise .entry))) 0 cells ⌝ }
 {
     let mut i: u16 = 0;
     while i < cells {
-        let cell = sheet::record_at(exercise, CellNumber(i), nets);
-        if is_detached(drivers, answer, i, cell) {
+        if is_detached_at(exercise, answer, nets, drivers, i) {
             return i;
         }
         i += 1;

@@ -1,5 +1,4 @@
--- A scan over the cells, in which the test is put to the cell's record.
-use Rattle.placing.proofs.Places.{detached-told}
+-- A scan over the cells.
 use Rattle.sheet.proofs.Scan.{Scanned, scan}
 use Prim.Native.Nat.{_-_}
 use Rattle.placing.specs.Places.{detachedAt}
@@ -20,10 +19,9 @@ first-detached-spec =
     Inv-loop
     μ-loop
     (λ c. search scan)  -- loop-holds
-    (λ c κs. search needs)  -- record-at-requires
-    (λ c κs. search needs)  -- is-detached-requires
-    (λ c. search (scan, detached-told))  -- returns
+    (λ c κs. search needs)  -- is-detached-at-requires
+    (λ c. search scan)  -- returns
     (λ c. search needs)  -- add-i
     (λ c. search needs)  -- loop-less
-    (λ c. search (scan, detached-told))  -- loop-again
+    (λ c. search scan)  -- loop-again
     (λ c. search scan))  -- returns-2
