@@ -16,10 +16,10 @@ use Rattle.lab.specs.Counts.{AllFit}
 use Rattle.lab.specs.declared.LabResult.{LabResult}
 use Rattle.netlist.specs.Cells.{cell}
 use Rattle.labs.specs.Members.{Links, members, linkBelow}
-use Rattle.labs.specs.Results.{resultAt, routeByte, rowFrom}
+use Rattle.labs.specs.Results.{resultAt, putRows}
 use Rattle.labs.proofs.Linked.{walk-members}
 use Rattle.labs.proofs.Labs.{result-is-lab}
-use Rattle.labs.proofs.Rows.{rows-are, bytes-eight}
+use Rattle.labs.proofs.Rows.{rows-put, bytes-eight}
 use Rattle.netlist.specs.Tables.{NONE}
 use Rattle.judge.specs.Judge.{labCells, labGroup, firstBroken}
 use Rattle.judge.specs.Stages.{numberedLab}
@@ -82,6 +82,7 @@ module _ (t : Table) (e a : List ℕ) (s : Sound e) (fits : (l : ℕ) → AllFit
     unfolding resultAt
     eight l = bytes-eight t (netCount e) e _
 
-    pub routes-are : rowFrom (routeByte t (netCount e) e (linked a (cellCount e) .first) (linked a (cellCount e) .next)) 0 8192 ≡ concatMap (λ l. routeOf t (labCells e a l)) (below 1024)
-    unfolding routeByte
-    routes-are = rows-are (λ l. resultOfLab l .bytes) 1024 (λ l h. eight l) ∙ rows-same (λ l. resultOfLab l .bytes) (λ l. routeOf t (labCells e a l)) 0 1024 (λ l h. bytes-are l (omega arith))
+    pub routes-are : (rows : List ℕ) → length rows ≡ 8192 → putRows (λ l. resultOfLab l .bytes) rows 1024 ≡ concatMap (λ l. routeOf t (labCells e a l)) (below 1024)
+    routes-are rows z =
+        rows-put (λ l. resultOfLab l .bytes) rows 1024 z (λ l h. eight l)
+        ∙ rows-same (λ l. resultOfLab l .bytes) (λ l. routeOf t (labCells e a l)) 0 1024 (λ l h. bytes-are l (omega arith))

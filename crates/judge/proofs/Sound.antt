@@ -34,6 +34,12 @@ first-same f g i (suc k) h = rw (h i (omega arith) (omega arith), first-same f g
 pub first-below : (f g : ℕ → Bool) (n : ℕ) → ((j : ℕ) → j < n → f j ≡ g j) → firstFrom f 0 n ≡ firstFrom g 0 n
 first-below f g n h = first-same f g 0 n (λ j p q. h j (omega arith))
 
+-- a scan ends at the end
+pub first-most : (f : ℕ → Bool) (i k : ℕ) → firstFrom f i k ≤ i + k
+unfolding firstFrom
+first-most f i zero = omega arith
+first-most f i (suc k) = by-test (f i) (λ t. rw t (omega arith)) (λ t. rw t (omega (arith, first-most f (suc i) k)))
+
 -- a scan that comes to the end has found nothing on the way
 none-from : (f : ℕ → Bool) (i k : ℕ) → i + k ≤ firstFrom f i k → (j : ℕ) → i ≤ j → j < i + k → f j ≡ false
 unfolding firstFrom

@@ -2,12 +2,12 @@
 use Prim.Native.Nat.{ℕ, suc, _+_, _-_, _≤_, _<_}
 use native.Mathlib.Numerals.{add-one}
 use native.Mathlib.Omega.{arith}
-use mathlib.Core.Path.{_≡_, sym, ap, _∙_}
+use mathlib.Core.Path.{_≡_, refl, sym, ap, _∙_}
 use mathlib.Core.Bool.{Bool, true, false, cond, not}
 use mathlib.Core.List.{List, [], _∷_, _++_}
-use lib.ListN.{length, replicate}
+use lib.ListN.{length, replicate, length-replicate}
 use lib.Dec.{eqb, ltb}
-use borrow.Author.Tests.{eq-eqb, ne-eqb, eqb-true, lt-ltb, le-ltb, le-leb, lt-leb}
+use borrow.Author.Tests.{eq-eqb, ne-eqb, eqb-true, eqb-false, not-true, lt-ltb, le-ltb, le-leb, lt-leb}
 use Rattle.sheet.specs.Lists.{concatMap, filterb, from, below, firstFrom}
 use Rattle.sheet.specs.Exercise.{netCount, cellCount, exerciseNumber}
 use Rattle.sheet.specs.Answer.{answerNumber, placeCount, wrongAnswerLength, placeStart}
@@ -20,8 +20,8 @@ use Rattle.netlist.specs.Tables.{NONE, malformedAt, doubleFrom, readsBelow, rea
 use Rattle.netlist.proofs.Double.{double-is}
 use Rattle.placing.specs.Places.{labAt, outOfRangeAt, placeTaken, detachedAt}
 use Rattle.labs.specs.Members.{members}
-use Rattle.labs.specs.Results.{resultAt, brokenLab, routeByte, rowFrom}
-use Rattle.lab.specs.declared.LabResult.{LabResult}
+use Rattle.labs.specs.Results.{resultAt, brokenLab, putRows}
+use Rattle.labs.proofs.Rows.{rows-long}
 use Rattle.sheet.specs.Record.{recordAt}
 use Rattle.sheet.specs.declared.Record.{Record}
 use Rattle.judge.specs.declared.Finding.{Finding}
@@ -34,7 +34,7 @@ use Rattle.judge.proofs.Numbers.{known-numbered, to-51-known}
 use Rattle.judge.proofs.Groups.{then, exercise-finds, answer-finds, cells-finds, cells-places-find, to-51-finds}
 use Rattle.judge.proofs.FitCells.{lab-fit}
 use Rattle.judge.proofs.LabsFound.{linked, labs-are, routes-are}
-use Rattle.judge.proofs.Sound.{Sound, sound-of, limits, numbered-none, then-first, then-second, cells-are, places-are}
+use Rattle.judge.proofs.Sound.{Sound, sound-of, limits, first-most, some-below, numbered-none, then-first, then-second, cells-are, places-are}
 
 -- ---- a finding, and the next where it is nothing
 then-stays : (f g : Finding) {r : Finding} → (f .number ≡ 0 → ⊥) → r ≡ f → r ≡ then f g
@@ -123,15 +123,26 @@ pub ruleset cell-steps = (cell-broken, cells-kept)
 
 -- ---- 60 to 65, from the lists
 module _ (t : Table) (nets : ℕ) (e first next : List ℕ) (l : ℕ) (at : l ≡ firstFrom (brokenLab t nets e first next) 0 1024) where
-  pub lab-broken : (r : LabResult) → l < 1024 → r ≡ resultAt t nets e first next l → finding (r .number) NONE l ≡ numberedLab (λ k. resultAt t nets e first next k .number)
-  unfolding brokenLab
-  lab-broken r h k = lab-stops (λ k. resultAt t nets e first next k .number) l (r .number) at h (ap (λ (x : LabResult). x .number) k)
+  abbrev numberOf : ℕ → ℕ
+  numberOf k = resultAt t nets e first next k .number
 
-  pub labs-kept : {r : Finding} → 1024 ≤ l → r ≡ legal → r ≡ numberedLab (λ k. resultAt t nets e first next k .number)
+  lab-broken : {r : Finding} → l < 1024 → r ≡ finding (numberOf l) NONE l → r ≡ numberedLab numberOf
   unfolding brokenLab
-  labs-kept h a = lab-ends (λ k. resultAt t nets e first next k .number) l at h a
+  lab-broken h a = a ∙ lab-stops numberOf l (numberOf l) at h refl
 
-pub ruleset lab-steps = (lab-broken, labs-kept)
+  lab-refused : l < 1024 → numberOf l ≡ 0 → ⊥
+  unfolding brokenLab
+  lab-refused h =
+      let broken = brokenLab t nets e first next in
+      let found : broken l ≡ true = ap broken at ∙ some-below broken 1024 (ap (λ (k : ℕ). ltb k 1024) (sym at) ∙ lt-ltb l 1024 h) in
+      eqb-false (numberOf l) 0 (not-true _ found)
+
+  labs-kept : {r : Finding} → 1024 ≤ l → r ≡ legal → r ≡ numberedLab numberOf
+  unfolding brokenLab
+  labs-kept h a = lab-ends numberOf l at h a
+
+  labs-all : 1024 ≤ l → l ≡ 1024
+  labs-all h = omega (arith, first-most (brokenLab t nets e first next) 0 1024)
 
 -- ---- 50 and 51
 module _ (drivers e a : List ℕ) (nets cells i : ℕ) (at : i ≡ firstFrom (placeTaken e a) 0 cells) where
@@ -225,12 +236,25 @@ place-lowest a n c m l h k q = h ∙ rw (k, q)
 
 pub ruleset culprit-steps = (from-start, place-lowest, passes, stops, le-leb, lt-leb)
 
+-- ---- the rows begin as 255s and keep their length
+abbrev blank : List ℕ
+blank = replicate 8192 255
+
+blank-size : length blank ≡ 8192
+blank-size = length-replicate {A = ℕ} 8192 255
+
+pub rows-size : (g : ℕ → List ℕ) (rows : List ℕ) (l : ℕ) → rows ≡ putRows g blank l → 8192 ≡ length rows
+rows-size g rows l p = sym (rw p (rows-long g blank l ∙ blank-size))
+
 -- ---- 60 to 65, of sheets that pass 1 to 51
 module _ (t : Table) (e a : List ℕ) (room : ℕ) (passed : firstBroken (checksTo51 e a room) .number ≡ 0) where
   past-room : (room ≡ 8192) × (then (firstBroken (exerciseGroup e)) (then (firstBroken (answerGroup e a)) (firstBroken (cellGroup e ++ placeGroup e a))) .number ≡ 0)
   past-room =
       by-test (eqb room 8192) (λ q. (eqb-true room 8192 q, rw (to-51-finds, q) at passed))
       (λ q. let z : _≡_ {A = ℕ} 1 0 = rw (to-51-finds, q) at passed in absurd (omega arith))
+
+  pub whole-room : room ≡ 8192
+  whole-room = past-room .0
 
   past-exercise : firstBroken (exerciseGroup e) .number ≡ 0
   past-exercise = then-first (firstBroken (exerciseGroup e)) _ (past-room .1)
@@ -250,20 +274,24 @@ module _ (t : Table) (e a : List ℕ) (room : ℕ) (passed : firstBroken (checks
 
   module _ (nets cells : ℕ) (first next : List ℕ) (n : nets ≡ netCount e) (c : cells ≡ cellCount e)
       (x : first ≡ linked a cells .first) (y : next ≡ linked a cells .next)
-      (f : Finding) (found : f ≡ numberedLab (λ l. resultAt t nets e first next l .number)) where
-    pub lab-group : f ≡ firstBroken (labGroup t e a)
-    lab-group = found ∙ rw (x, y, n, c) (labs-are t e a sound fits)
+      (l : ℕ) (at : l ≡ firstFrom (brokenLab t nets e first next) 0 1024) (f : Finding) where
+    lab-group : f ≡ numberedLab (λ k. resultAt t nets e first next k .number) → f ≡ firstBroken (labGroup t e a)
+    lab-group found = found ∙ rw (x, y, n, c) (labs-are t e a sound fits)
 
-    module _ (before after : List ℕ) where
-      pub routes-kept : (f .number ≡ 0 → ⊥) → after ≡ before → after ≡ cond (eqb (f .number) 0) (concatMap (λ l. routeOf t (labCells e a l)) (below 1024)) before
-      routes-kept h q = rw (ne-eqb (f .number) 0 h) q
+    pub labs-stop : (before : List ℕ) → l < 1024 → f ≡ finding (resultAt t nets e first next l .number) NONE l
+        → (f ≡ firstBroken (labGroup t e a)) × (before ≡ cond (eqb (f .number) 0) (concatMap (λ k. routeOf t (labCells e a k)) (below 1024)) before)
+    labs-stop before h q =
+        let some : f .number ≡ 0 → ⊥ = λ z. lab-refused t nets e first next l at h (ap (λ (z : Finding). z .number) (sym q) ∙ z) in
+        (lab-group (lab-broken t nets e first next l at h q), rw (ne-eqb (f .number) 0 some))
 
-      pub routes-written : f .number ≡ 0 → room ≡ length before → after ≡ rowFrom (routeByte t nets e first next) 0 (length before)
-          → after ≡ cond (eqb (f .number) 0) (concatMap (λ l. routeOf t (labCells e a l)) (below 1024)) before
-      routes-written h k q =
-          let held : firstBroken (labGroup t e a) .number ≡ 0 = ap (λ (z : Finding). z .number) (sym lab-group) ∙ h in
-          let size : length before ≡ 8192 = sym k ∙ past-room .0 in
-          rw (eq-eqb (f .number) 0 h) (q ∙ rw (size, x, y, n, c) (routes-are t e a sound fits held))
+    pub labs-go : (before after rows : List ℕ) → 1024 ≤ l → f ≡ legal
+        → rows ≡ putRows (λ k. resultAt t nets e first next k .bytes) blank l → after ≡ rows
+        → (f ≡ firstBroken (labGroup t e a)) × (after ≡ cond (eqb (f .number) 0) (concatMap (λ k. routeOf t (labCells e a k)) (below 1024)) before)
+    labs-go before after rows h q p o =
+        let none : f .number ≡ 0 = ap (λ (z : Finding). z .number) q in
+        let group = lab-group (labs-kept t nets e first next l at h q) in
+        let held : firstBroken (labGroup t e a) .number ≡ 0 = ap (λ (z : Finding). z .number) (sym group) ∙ none in
+        (group, rw (eq-eqb (f .number) 0 none) (o ∙ p ∙ rw (labs-all t nets e first next l at h, x, y, n, c) (routes-are t e a sound fits held blank blank-size)))
 
 -- ---- the whole verdict
 module _ (t : Table) (e a before : List ℕ) (f : Finding) (x : f ≡ firstBroken (checksTo51 e a (length before))) where

@@ -12,7 +12,7 @@ ghost use Rattle.sheet.specs.Answer.{placeStart};
 ghost use Rattle.route.specs.Table.{houseBoard};
 ghost use Rattle.lab.specs.Rules.{routeOf};
 ghost use Rattle.judge.specs.Judge.{finding, legal, ofExercise, ofAnswer, exerciseGroup, answerGroup, cellGroup, placeGroup, labGroup, checksTo51, labCells, firstBroken, apprenticeOf, lowestIn, culpritOf, verdictOf, judged, bytesOf, routed};
-ghost use Rattle.judge.specs.Stages.{numbered, numberedLab, placedBy, numbersOf};
+ghost use Rattle.judge.specs.Stages.{numbered, placedBy, numbersOf};
 ghost use Rattle.netlist.specs.Tables.{NONE, numberAt};
 ghost use Rattle.labs.specs.Results.{resultAt};
 
@@ -187,26 +187,35 @@ fn finding_to_51(exercise: &[u8], answer: &[u8], room: usize) -> Finding
     cells_finding(exercise, answer)
 }
 
-// 60 to 65, from the lists of cells by LAB.
+// The finding of a LAB that breaks one of 60 to 65, from the lists of cells by LAB.
 fn lab_finding(
     table: [[bool; 5]; 6],
     exercise: &[u8],
     nets: u16,
     first: &[u16],
     next: &[u16],
+    lab: u16,
 ) -> Finding
-    ensures { λ r. ⌜ r ≡ numberedLab (λ l. resultAt table nets (now (exercise .entry)) (now (first .entry)) (now (next .entry)) l .number) ⌝ }
+    ensures { λ r. ⌜ r ≡ finding (resultAt table nets (now (exercise .entry)) (now (first .entry)) (now (next .entry)) lab .number) NONE lab ⌝ }
 {
-    let lab = labs::first_broken_lab(table, exercise, nets, first, next);
-    if lab < labs::LABS {
-        let result = labs::result_at(table, exercise, nets, first, next, lab as usize);
-        return Finding {
-            number: result.number,
-            cell: NONE,
-            lab,
-        };
+    let result = labs::result_at(table, exercise, nets, first, next, lab as usize);
+    Finding {
+        number: result.number,
+        cell: NONE,
+        lab,
     }
-    plain(0)
+}
+
+// Copies the rows into the route buffer.
+fn copy(rows: &[u8], route: &mut [u8])
+    requires { ⌜ length (now rows) ≡ length (now route) ⌝ }
+    ensures { λ _. ⌜ now (route .exit) ≡ now (rows .entry) ⌝ }
+{
+    let mut k = 0;
+    while k < route.len() {
+        route[k] = rows[k];
+        k += 1;
+    }
 }
 
 // 60 to 65, of sheets that pass 1 to 51; where none is broken, the routes are written.
@@ -220,12 +229,13 @@ fn judge_labs(table: [[bool; 5]; 6], exercise: &[u8], answer: &[u8], route: &mut
     let mut first = [NONE; 1024];
     let mut next = [NONE; 512];
     labs::link_cells(answer, cells, &mut first, &mut next);
-    let found = lab_finding(table, exercise, nets, &first, &next);
-    if found.number != 0 {
-        return found;
+    let mut rows = [255u8; 8192];
+    let lab = labs::route_labs(table, exercise, nets, &first, &next, &mut rows);
+    if lab < labs::LABS {
+        return lab_finding(table, exercise, nets, &first, &next, lab);
     }
-    labs::write_routes(table, exercise, nets, &first, &next, route);
-    found
+    copy(&rows, route);
+    plain(0)
 }
 
 // The apprentice: 0 for 1 to 23, else the answer sheet's.

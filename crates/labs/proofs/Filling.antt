@@ -3,11 +3,15 @@ use Prim.Native.Nat.{ℕ, zero, suc, _+_, _<_, _≤_}
 use native.Mathlib.Nat.{not-suc-le-zero, le-of-suc-le-suc}
 use native.Mathlib.Omega.{arith}
 use mathlib.Core.Path.{_≡_, refl, sym, ap, _∙_}
-use mathlib.Core.List.{List}
+use mathlib.Core.List.{List, [], _∷_}
 use lib.ListN.{length, getD, set, length-set}
 use lib.Seq.{getD-set-same, getD-set-other, ext-getD}
 use borrow.Author.Count.{below-more}
-use Rattle.labs.specs.Results.{rowFrom}
+
+-- g i, g (i + 1), .. of k numbers
+unfoldable pub rowFrom : (ℕ → ℕ) → ℕ → ℕ → List ℕ
+rowFrom g i zero = []
+rowFrom g i (suc k) = g i ∷ rowFrom g (suc i) k
 
 pub row-length : (g : ℕ → ℕ) (i n : ℕ) → length (rowFrom g i n) ≡ n
 unfolding rowFrom
@@ -47,4 +51,6 @@ write-ends g l₀ l k w h =
     w .done i (omega arith)
     ∙ sym (row-at g 0 (length l₀) i (omega arith) ∙ ap g (omega arith)))
 
-pub ruleset writing = (write-starts, write-goes, write-ends)
+-- the rule is a list's own elements: the list is copied
+pub copy-ends : (l₀ l m : List ℕ) (k : ℕ) → Written (λ j. getD m j 0) l₀ l k → length l ≤ k → length m ≡ length l₀ → l ≡ m
+copy-ends l₀ l m k w h e = ext-getD 0 l m (w .long ∙ sym e) (λ i b. w .done i (omega arith))

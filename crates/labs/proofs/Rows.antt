@@ -1,10 +1,10 @@
--- The buffer that is filled byte by byte is the eight bytes of each LAB, one after the other. Assumes nothing.
-use Prim.Native.Nat.{ℕ, zero, suc, _+_, _*_, _/_, _%_, _<_}
+-- The rows that are filled eight bytes at a time are the eight bytes of each LAB, one after the other. Assumes nothing.
+use Prim.Native.Nat.{ℕ, zero, suc, _+_, _*_, _/_, _%_, _<_, _≤_}
 use mathlib.Core.Path.{_≡_, refl, sym, ap, _∙_}
 use mathlib.Core.List.{List, [], _∷_, _++_, map}
 use mathlib.Core.Option.{Option, none, some}
 use native.Mathlib.Omega.{arith}
-use lib.ListN.{length, getD, replicate}
+use lib.ListN.{length, getD, set, replicate, length-set}
 use lib.Seq.{ext-getD}
 use lib.Dec.{eqb}
 use Rattle.sheet.specs.Lists.{concatMap, from, below}
@@ -16,8 +16,8 @@ use Rattle.route.specs.Table.{Table}
 use Rattle.route.specs.Route.{firstWay, eightBytes, labRouteOf}
 use Rattle.lab.specs.Counts.{noCounts, countsAll, markCells, brokenBy, needsHeld, routedResult, resultFrom}
 use Rattle.lab.specs.declared.Counts.{Counts}
-use Rattle.labs.specs.Results.{resultOf, rowFrom}
-use Rattle.labs.proofs.Filling.{row-length, row-at}
+use Rattle.labs.specs.Results.{resultOf, putRow, putRows}
+use Rattle.labs.proofs.Filling.{rowFrom, row-length, row-at, Written, write-starts, write-goes, write-ends}
 
 row-append : (g : ℕ → ℕ) (i m n : ℕ) → rowFrom g i (m + n) ≡ rowFrom g i m ++ rowFrom g (i + m) n
 unfolding rowFrom
@@ -53,8 +53,45 @@ module _ (g : ℕ → List ℕ) where
       (row-append byteOf (8 * i) 8 (8 * k)
       ∙ rw (after, one-row i (h i (omega arith)), rows-from (suc i) k (λ l b. h l (omega arith))))
 
-pub rows-are : (g : ℕ → List ℕ) (k : ℕ) → ((l : ℕ) → l < k → length (g l) ≡ 8) → rowFrom (λ j. getD (g (j / 8)) (j % 8) 0) 0 (8 * k) ≡ concatMap g (below k)
-rows-are g k h = rows-from g 0 k (λ l b. h l (omega arith))
+  row-long : (l : List ℕ) (k : ℕ) (b : List ℕ) → length (putRow l k b) ≡ length l
+  unfolding putRow
+  row-long l k b = simp length-set
+
+  pub rows-long : (l : List ℕ) (k : ℕ) → length (putRows g l k) ≡ length l
+  unfolding putRows
+  rows-long l zero = refl
+  rows-long l (suc k) = row-long (putRows g l k) k (g k) ∙ rows-long l k
+
+  -- byte j of the row of LAB k
+  byte-goes : (l₀ l : List ℕ) (k j at after : ℕ) → j < 8 → at ≡ 8 * k + j → after ≡ at + 1 → 8 * k + 8 ≤ length l₀ → Written byteOf l₀ l at
+      → Written byteOf l₀ (set l at (getD (g k) j 0)) after
+  byte-goes l₀ l k j at after h p q r w =
+      let lab : at / 8 ≡ k = omega arith in
+      let place : at % 8 ≡ j = omega arith in
+      rw q (write-goes byteOf l₀ l at _ w (omega (arith, w .long)) (rw (lab, place)))
+
+  row-goes : (l₀ l : List ℕ) (k : ℕ) → 8 * k + 8 ≤ length l₀ → Written byteOf l₀ l (8 * k) → Written byteOf l₀ (putRow l k (g k)) (8 * suc k)
+  unfolding putRow
+  row-goes l₀ l k r w =
+      let w1 = byte-goes l₀ _ k 0 (8 * k) (8 * k + 1) (omega arith) (omega arith) refl r w in
+      let w2 = byte-goes l₀ _ k 1 (8 * k + 1) (8 * k + 2) (omega arith) refl (omega arith) r w1 in
+      let w3 = byte-goes l₀ _ k 2 (8 * k + 2) (8 * k + 3) (omega arith) refl (omega arith) r w2 in
+      let w4 = byte-goes l₀ _ k 3 (8 * k + 3) (8 * k + 4) (omega arith) refl (omega arith) r w3 in
+      let w5 = byte-goes l₀ _ k 4 (8 * k + 4) (8 * k + 5) (omega arith) refl (omega arith) r w4 in
+      let w6 = byte-goes l₀ _ k 5 (8 * k + 5) (8 * k + 6) (omega arith) refl (omega arith) r w5 in
+      let w7 = byte-goes l₀ _ k 6 (8 * k + 6) (8 * k + 7) (omega arith) refl (omega arith) r w6 in
+      byte-goes l₀ _ k 7 (8 * k + 7) (8 * suc k) (omega arith) refl (omega arith) r w7
+
+  rows-go : (l : List ℕ) (k : ℕ) → 8 * k ≤ length l → Written byteOf l (putRows g l k) (8 * k)
+  unfolding putRows
+  rows-go l zero h = write-starts byteOf l
+  rows-go l (suc k) h = row-goes l (putRows g l k) k (omega arith) (rows-go l k (omega arith))
+
+  -- rows of all LABs below k and no more
+  pub rows-put : (l : List ℕ) (k : ℕ) → length l ≡ 8 * k → ((i : ℕ) → i < k → length (g i) ≡ 8) → putRows g l k ≡ concatMap g (below k)
+  rows-put l k h e =
+      let w = rows-go l k (omega arith) in
+      write-ends byteOf l (putRows g l k) (8 * k) w (omega (arith, w .long)) ∙ rw h (rows-from 0 k (λ i b. e i (omega arith)))
 
 -- ---- a result has eight bytes
 routed-eight : (ns : List Need) (way : Option (List ℕ)) → length (routedResult (labRouteOf ns way) .bytes) ≡ 8

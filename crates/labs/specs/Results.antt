@@ -1,8 +1,8 @@
--- The result of each LAB from the lists of cells, and the route bytes of all LABs. `t` is the entry table, `nets` the net count. Assumes nothing.
-use Prim.Native.Nat.{ℕ, zero, suc, _/_, _%_}
+-- The result of each LAB from the lists of cells, and the rows of route bytes. `t` is the entry table, `nets` the net count. Assumes nothing.
+use Prim.Native.Nat.{ℕ, zero, suc, _+_, _*_}
 use mathlib.Core.Bool.{Bool, not}
 use mathlib.Core.List.{List, [], _∷_, map}
-use lib.ListN.{getD, replicate}
+use lib.ListN.{getD, set, replicate}
 use lib.Dec.{eqb}
 use Rattle.sheet.specs.Record.{recordAt}
 use Rattle.distinct.specs.Nets.{readMarks}
@@ -29,11 +29,14 @@ resultAt t nets e first next l = resultOf t nets e (walk next (getD first l NONE
 unfoldable pub brokenLab : Table → ℕ → List ℕ → List ℕ → List ℕ → ℕ → Bool
 brokenLab t nets e first next l = not (eqb (resultAt t nets e first next l .number) 0)
 
--- byte k of the route buffer: "8 bytes per LAB at 8 × LAB number"
-unfoldable pub routeByte : Table → ℕ → List ℕ → List ℕ → List ℕ → ℕ → ℕ
-routeByte t nets e first next k = getD (resultAt t nets e first next (k / 8) .bytes) (k % 8) 0
+-- the eight bytes b of LAB l, put into the rows: "8 bytes per LAB at 8 × LAB number"
+unfoldable pub putRow : List ℕ → ℕ → List ℕ → List ℕ
+putRow rows l b =
+    let at = 8 * l in
+    let half = set (set (set (set rows at (getD b 0 0)) (at + 1) (getD b 1 0)) (at + 2) (getD b 2 0)) (at + 3) (getD b 3 0) in
+    set (set (set (set half (at + 4) (getD b 4 0)) (at + 5) (getD b 5 0)) (at + 6) (getD b 6 0)) (at + 7) (getD b 7 0)
 
--- g i, g (i + 1), .. of k numbers
-unfoldable pub rowFrom : (ℕ → ℕ) → ℕ → ℕ → List ℕ
-rowFrom g i zero = []
-rowFrom g i (suc k) = g i ∷ rowFrom g (suc i) k
+-- the bytes of the LABs below k, put into the rows
+unfoldable pub putRows : (ℕ → List ℕ) → List ℕ → ℕ → List ℕ
+putRows bytes rows zero = rows
+putRows bytes rows (suc k) = putRow (putRows bytes rows k) k (bytes k)

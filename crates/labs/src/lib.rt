@@ -3,11 +3,11 @@ use lab::LabResult;
 use sheet::CellNumber;
 ghost use mathlib.Core.Path.{_≡_};
 ghost use mathlib.Core.Bool.{true};
-ghost use Prim.Native.Nat.{_<_, _≤_, _/_, _%_};
+ghost use Prim.Native.Nat.{_<_, _≤_};
 ghost use lib.ListN.{length, getD, set};
 ghost use Rattle.sheet.specs.Lists.{firstFrom};
 ghost use Rattle.labs.specs.Members.{Links, link, linkBelow, walk};
-ghost use Rattle.labs.specs.Results.{resultOf, countedOf, resultAt, brokenLab, routeByte, rowFrom};
+ghost use Rattle.labs.specs.Results.{resultOf, countedOf, resultAt, brokenLab, putRow, putRows};
 
 // The number of LABs.
 pub const LABS: u16 = 1024;
@@ -145,76 +145,43 @@ pub fn result_at(
     result_from(table, exercise, nets, next, start)
 }
 
-// 60 to 65: the lowest LAB that breaks one of them, or 1,024.
-pub fn first_broken_lab(
+// Puts a LAB's eight route bytes into the rows.
+fn put_row(rows: &mut [u8; 8192], lab: u16, bytes: [u8; 8])
+    requires { ⌜ lab < 1024 ⌝ }
+    ensures { λ _. ⌜ now (rows .exit) ≡ putRow (now (rows .entry)) lab bytes ⌝ }
+{
+    let at = 8 * (lab as usize);
+    rows[at] = bytes[0];
+    rows[at + 1] = bytes[1];
+    rows[at + 2] = bytes[2];
+    rows[at + 3] = bytes[3];
+    rows[at + 4] = bytes[4];
+    rows[at + 5] = bytes[5];
+    rows[at + 6] = bytes[6];
+    rows[at + 7] = bytes[7];
+}
+
+// 60 to 65: the lowest LAB that breaks one of them, or 1,024. The route bytes of the LABs below it are put into the rows.
+pub fn route_labs(
     table: [[bool; 5]; 6],
     exercise: &[u8],
     nets: u16,
     first: &[u16],
     next: &[u16],
+    rows: &mut [u8; 8192],
 ) -> u16
-    ensures { λ r. ⌜ r ≡ firstFrom (brokenLab table nets (now (exercise .entry)) (now (first .entry)) (now (next .entry))) 0 1024 ⌝ }
+    ensures found { λ r. ⌜ r ≡ firstFrom (brokenLab table nets (now (exercise .entry)) (now (first .entry)) (now (next .entry))) 0 1024 ⌝ }
+    ensures written { λ r. ⌜ now (rows .exit) ≡ putRows (λ l. resultAt table nets (now (exercise .entry)) (now (first .entry)) (now (next .entry)) l .bytes) (now (rows .entry)) r ⌝ }
 {
     let mut lab: u16 = 0;
     while lab < LABS {
-        if is_broken(table, exercise, nets, first, next, lab) {
+        let result = result_at(table, exercise, nets, first, next, lab as usize);
+        if result.number != 0 {
             return lab;
         }
+        let bytes = result.bytes;
+        put_row(rows, lab, bytes);
         lab += 1;
     }
     lab
-}
-
-fn is_broken(
-    table: [[bool; 5]; 6],
-    exercise: &[u8],
-    nets: u16,
-    first: &[u16],
-    next: &[u16],
-    lab: u16,
-) -> bool
-    ensures { λ r. ⌜ r ≡ brokenLab table nets (now (exercise .entry)) (now (first .entry)) (now (next .entry)) lab ⌝ }
-{
-    let result = result_at(table, exercise, nets, first, next, lab as usize);
-    result.number != 0
-}
-
-// The route bytes of the LAB that byte k belongs to, where those of the byte before are held.
-fn bytes_at(
-    table: [[bool; 5]; 6],
-    exercise: &[u8],
-    nets: u16,
-    first: &[u16],
-    next: &[u16],
-    k: usize,
-    held: [u8; 8],
-) -> [u8; 8]
-    requires { ⌜ ((k % 8 ≡ 0 → ⊥) → held ≡ resultAt table nets (now exercise) (now first) (now next) (k / 8) .bytes) ⌝ }
-    ensures { λ r. ⌜ r ≡ resultAt table nets (now (exercise .entry)) (now (first .entry)) (now (next .entry)) (k / 8) .bytes ⌝ }
-{
-    if k % 8 == 0 {
-        let result = result_at(table, exercise, nets, first, next, k / 8);
-        return result.bytes;
-    }
-    held
-}
-
-// Writes the route bytes of every LAB: byte k of the buffer belongs to LAB k / 8.
-pub fn write_routes(
-    table: [[bool; 5]; 6],
-    exercise: &[u8],
-    nets: u16,
-    first: &[u16],
-    next: &[u16],
-    route: &mut [u8],
-)
-    ensures { λ _. ⌜ now (route .exit) ≡ rowFrom (routeByte table nets (now (exercise .entry)) (now (first .entry)) (now (next .entry))) 0 (length (now (route .entry))) ⌝ }
-{
-    let mut held = [255u8; 8];
-    let mut k = 0;
-    while k < route.len() {
-        held = bytes_at(table, exercise, nets, first, next, k, held);
-        route[k] = held[k % 8];
-        k += 1;
-    }
 }

@@ -1,8 +1,9 @@
--- What the walks of `next_record` and `next_place`, and of `read_record` and `read_place` are over: each pair has one MIR but for names, so it is walked once (`NextWalk.antt`, `ReadWalk.antt`), over a `Kind`.
+-- What the walks of `open_exercise` and `open_answer`, of `next_record` and `next_place`, and of `read_record` and `read_place` are over: each pair has one MIR but for names, so it is walked once (`OpenWalk.antt`, `NextWalk.antt`, `ReadWalk.antt`), over a `Kind`.
 --     Kind                 the struct that a reader is, its fields, what it gives, and the two definitions that say what it gives and where it goes on
 --     exercise, answer     the two
 --     sheetSpec            the contract of a function that takes a slice and a number, and answers f of them
 --     nextEnded, nextClauses       the signature of a function to which the struct is lent, and its contract, over what it ensures.        readEnded, readClauses       the same of one that takes a slice and a number lent
+--     openEnded, openClauses       the same of one that makes the struct of a slice
 -- Assumes nothing.
 use mathlib.Core.Path.{_≡_, refl}
 use Prim.Native.Nat.{ℕ}
@@ -133,6 +134,17 @@ ReadEns 𝓤 K = (κs : Lfts 2) → Args (readEnded K .signature) κs → Res (r
 module _ {M : Type 1} (𝓤 : URA M) (K : Kind) (ens : ReadEns 𝓤 K) where
   abbrev pub readClauses : Clauses 𝓤 (readEnded K)
   readClauses κs a = record { ghost = Unit {0}; requires = λ _. emp 𝓤; ensures = λ _ r e. ens κs a r e }
+
+-- ---- a function that makes the struct of a slice
+abbrev pub openEnded : Kind → Ended
+openEnded K = record { signature = record { lifetimes = 1; outlives = []; params = shrSliceOf (0 ∷ []) tt (plain (λ _. u8)) ∷ []; result = plain (λ κs. rowAt K (namedLft 1 0 tt κs)) }; kept = (yes, tt) }
+
+abbrev pub OpenEns : {M : Type 1} → URA M → Kind → Type 2
+OpenEns 𝓤 K = (κs : Lfts 1) → Args (openEnded K .signature) κs → Res (openEnded K .signature) κs → AtExit (openEnded K) κs → SProp 𝓤
+
+module _ {M : Type 1} (𝓤 : URA M) (K : Kind) (ens : OpenEns 𝓤 K) where
+  abbrev pub openClauses : Clauses 𝓤 (openEnded K)
+  openClauses κs a = record { ghost = Unit {0}; requires = λ _. emp 𝓤; ensures = λ _ r e. ens κs a r e }
 
 -- ---- the two kinds
 abbrev pub exercise : Kind

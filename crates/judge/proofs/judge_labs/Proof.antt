@@ -1,33 +1,45 @@
--- The lists by LAB give each LAB its cells; the routes are written only where no LAB is broken.
-use Rattle.judge.proofs.Steps.{lab-group, routes-kept, routes-written}
+-- The lists by LAB give each LAB its cells; the rows are copied to the route buffer only where no LAB is broken.
+use Rattle.judge.proofs.Steps.{rows-size, whole-room, labs-stop, labs-go}
 use lib.ListN.{length}
 use denote.Ref.{now}
-use mathlib.Core.Path.{refl}
+use mathlib.Core.Path.{sym, _∙_}
+use native.Mathlib.Omega.{arith}
 use borrow.Author.Needs.{needs}
 use Rattle.judge.proofs.judge_labs.Statement.{statement}
 use Rattle.judge.proofs.judge_labs.Tie as tie
 
 returns : tie.Need-returns
 returns c =
-    let k = c .before .before .before .before .before .before .before .before .before .before .before .before .before .before .before in
-    let l = c .before .before .before .before .before .before .before .link-cells in
-    let n = c .before .before .before .before .before .before .before .before .before .before .before .net-count .ensures in
-    let m = c .before .before .before .before .before .before .before .before .before .before .cell-count .ensures in
-    let f = c .before .before .lab-finding in (
-      lab-group (k .args .table) (now (k .args .exercise)) (now (k .args .answer)) (length (now (k .args .route))) (k .pre) _ _ _ _ n m (l .ensures .0) (l .ensures .1) (f .result) (f .ensures),
-      routes-kept (k .args .table) (now (k .args .exercise)) (now (k .args .answer)) (length (now (k .args .route))) (k .pre) _ _ _ _ n m (l .ensures .0) (l .ensures .1) (f .result) (f .ensures) (now (k .args .route)) (now (k .args .route)) (c .if1 .taken) refl,
-    )
+    let i = c .before .before .before in
+    let p = i .before in
+    let l = p .before .before .before .before .before .before in
+    let m = l .before .before .before in
+    let n = m .before in
+    let k = n .before .before .before .before in
+    labs-stop (k .args .table) (now (k .args .exercise)) (now (k .args .answer)) (length (now (k .args .route))) (k .pre) _ _ _ _ (n .net-count .ensures) (m .cell-count .ensures)
+    (l .link-cells .ensures .0) (l .link-cells .ensures .1) _ (p .route-labs .ensures .0) _ (now (k .args .route)) (omega (arith, i .if1 .taken)) (c .lab-finding .ensures)
+
+copy-requires : tie.Need-copy-requires
+copy-requires c κs =
+    let p = c .before .before .before in
+    let l = p .before .before .before .before .before .before in
+    let m = l .before .before .before in
+    let n = m .before in
+    let k = n .before .before .before .before in
+    sym (rows-size _ _ _ (p .route-labs .ensures .1))
+    ∙ sym (whole-room (k .args .table) (now (k .args .exercise)) (now (k .args .answer)) (length (now (k .args .route))) (k .pre))
 
 returns-2 : tie.Need-returns-2
 returns-2 c =
-    let k = c .before .before .before .before .before .before .before .before .before .before .before .before .before .before .before .before .before .before .before .before .before in
-    let l = c .before .before .before .before .before .before .before .before .before .before .before .before .before .link-cells in
-    let n = c .before .before .before .before .before .before .before .before .before .before .before .before .before .before .before .before .before .net-count .ensures in
-    let m = c .before .before .before .before .before .before .before .before .before .before .before .before .before .before .before .before .cell-count .ensures in
-    let f = c .before .before .before .before .before .before .before .before .lab-finding in (
-      lab-group (k .args .table) (now (k .args .exercise)) (now (k .args .answer)) (length (now (k .args .route))) (k .pre) _ _ _ _ n m (l .ensures .0) (l .ensures .1) (f .result) (f .ensures),
-      routes-written (k .args .table) (now (k .args .exercise)) (now (k .args .answer)) (length (now (k .args .route))) (k .pre) _ _ _ _ n m (l .ensures .0) (l .ensures .1) (f .result) (f .ensures) (now (k .args .route)) _ (c .before .before .before .before .before .before .if1 .left) refl (c .before .before .write-routes .ensures),
-    )
+    let o = c .before .before .before in
+    let i = o .before .before .before in
+    let p = i .before in
+    let l = p .before .before .before .before .before .before in
+    let m = l .before .before .before in
+    let n = m .before in
+    let k = n .before .before .before .before in
+    labs-go (k .args .table) (now (k .args .exercise)) (now (k .args .answer)) (length (now (k .args .route))) (k .pre) _ _ _ _ (n .net-count .ensures) (m .cell-count .ensures)
+    (l .link-cells .ensures .0) (l .link-cells .ensures .1) _ (p .route-labs .ensures .0) _ (now (k .args .route)) _ _ (omega (arith, i .if1 .left)) (c .plain .ensures) (p .route-labs .ensures .1) (o .copy .ensures)
 
 pub judge-labs-spec : {M : Type 1} → statement M
 judge-labs-spec =
@@ -38,12 +50,15 @@ judge-labs-spec =
     (λ c. search needs)  -- slice-aggregate-link-cells
     (λ c. search needs)  -- slice-aggregate-link-cells-2
     (λ c κs. search needs)  -- link-cells-requires
+    (λ c. search needs)  -- slice-aggregate-route-labs
+    (λ c. search needs)  -- slice-aggregate-route-labs-2
+    (λ c κs. search needs)  -- route-labs-requires
     (λ c. search needs)  -- slice-aggregate-lab-finding
     (λ c. search needs)  -- slice-aggregate-lab-finding-2
     (λ c κs. search needs)  -- lab-finding-requires
     returns
-    (λ c. search needs)  -- slice-aggregate-write-routes
-    (λ c. search needs)  -- slice-aggregate-write-routes-2
-    (λ c κs. search needs)  -- write-routes-requires
+    (λ c. rows-size _ _ _ (c .before .before .route-labs .ensures .1))  -- slice-aggregate-copy
+    copy-requires
+    (λ c κs. search needs)  -- plain-requires
     (λ c. search needs)  -- same-length
     returns-2)
