@@ -1,5 +1,6 @@
 //! The readers and the list check in plain Rust, straight from document 01: sets
 //! and all ways, no tables.
+#![allow(dead_code)]
 
 use std::collections::BTreeSet;
 
