@@ -2,24 +2,7 @@
  *
  *     cc -o example c/example.c target/staticlib/libc_api.a && ./example exercise.lxe answer.lxa */
 #include "nurimkkot.h"
-
-#include <stdio.h>
-
-/* One byte more than the largest legal sheets: a longer file is refused by its length all the same. */
-#define EXERCISE_ROOM 12298
-#define ANSWER_ROOM 2060
-
-/* Reads a file; one that is missing counts as empty. */
-static size_t read_file(const char *path, uint8_t *bytes, size_t room)
-{
-    FILE *file = fopen(path, "rb");
-    size_t length;
-    if (file == NULL)
-        return 0;
-    length = fread(bytes, 1, room, file);
-    fclose(file);
-    return length;
-}
+#include "sheet_files.h"
 
 int main(int argc, char **argv)
 {

@@ -2,24 +2,10 @@
  *
  *     cc -o labs c/labs.c target/staticlib/libc_api.a && ./labs exercise.lxe answer.lxa */
 #include "nurimkkot.h"
+#include "sheet_files.h"
 
-#include <stdio.h>
-
-#define EXERCISE_ROOM 12298
-#define ANSWER_ROOM 2060
 #define CELLS 512
 #define LABS 1024
-
-static size_t read_file(const char *path, uint8_t *bytes, size_t room)
-{
-    FILE *file = fopen(path, "rb");
-    size_t length;
-    if (file == NULL)
-        return 0;
-    length = fread(bytes, 1, room, file);
-    fclose(file);
-    return length;
-}
 
 /* All cells of an exercise that opens; -1 where a record breaks the layout. */
 static int read_cells(const uint8_t *exercise, size_t length, struct nurimkkot_cell *cells)

@@ -1,40 +1,10 @@
 /* Calls the readers and the check of one LAB as the tablet would: sheets cut short at every length, lists at both sides of every
  * limit, guard bytes around what is written, and sheets and lists of their own so that valgrind sees a read past the end. */
-#include "../../c/nurimkkot.h"
+#include "check.h"
 
-#include <stdio.h>
-#include <stdlib.h>
-#include <string.h>
-
-static const uint8_t EXERCISE[57] = {
-    'L', 'X', 'E', 1, 0, 4, 0, 2, 0,
-    2, 0, 4, 0, 6, 0, 0, 0, 8, 0, 0, 0, 0, 0, 0, 0, 10, 0, 0, 0, 0, 0, 0, 0,
-    1, 0, 10, 0, 0, 0, 0, 0, 0, 0, 0, 0, 4, 0, 0, 0, 0, 0, 0, 0, 0, 0, 0, 0,
-};
-static const uint8_t ANSWER[19] = {
-    'L', 'X', 'A', 1, 0, 7, 0, 0, 0, 2, 0, 2, 1, 0, 0, 2, 1, 0, 0,
-};
 static const uint8_t NO_ROUTE[8] = {255, 255, 255, 255, 255, 255, 255, 255};
 
 enum { DATAIN, CLK, ENA, ACLR, SCLR, SLOAD, SDATA, REGOUT };
-
-static int failures;
-
-static void expect(int holds, const char *what, long at)
-{
-    if (!holds) {
-        printf("FAILED: %s (%ld)\n", what, at);
-        failures++;
-    }
-}
-
-static void *copy_of(const void *bytes, size_t length)
-{
-    void *copy = malloc(length ? length : 2);
-    if (length)
-        memcpy(copy, bytes, length);
-    return copy;
-}
 
 /* One call of a reader with guards around the fields; gives what it says. */
 static uint8_t next(int of_answer, const uint8_t *sheet, size_t length, uint16_t *at, uint16_t *fields)

@@ -1,41 +1,8 @@
 /* Calls the judge as the tablet would: empty sheets, route buffers of every length around the right one with guard bytes on both
  * sides, damaged sheets. The sanitizers watch this program; what the library itself reads and writes is seen only under valgrind. */
-#include "../../c/nurimkkot.h"
-
-#include <stdio.h>
-#include <stdlib.h>
-#include <string.h>
+#include "check.h"
 
 #define GUARD 64
-
-/* The worked listing of document 01. */
-static const uint8_t EXERCISE[57] = {
-    'L', 'X', 'E', 1, 0, 4, 0, 2, 0,
-    2, 0, 4, 0, 6, 0, 0, 0, 8, 0, 0, 0, 0, 0, 0, 0, 10, 0, 0, 0, 0, 0, 0, 0,
-    1, 0, 10, 0, 0, 0, 0, 0, 0, 0, 0, 0, 4, 0, 0, 0, 0, 0, 0, 0, 0, 0, 0, 0,
-};
-static const uint8_t ANSWER[19] = {
-    'L', 'X', 'A', 1, 0, 7, 0, 0, 0, 2, 0, 2, 1, 0, 0, 2, 1, 0, 0,
-};
-
-static int failures;
-
-static void expect(int holds, const char *what, long at)
-{
-    if (!holds) {
-        printf("FAILED: %s (%ld)\n", what, at);
-        failures++;
-    }
-}
-
-/* A copy of its own for each sheet, so that valgrind sees a read past the end. */
-static uint8_t *copy_of(const uint8_t *bytes, size_t length)
-{
-    uint8_t *copy = malloc(length ? length : 1);
-    if (length)
-        memcpy(copy, bytes, length);
-    return copy;
-}
 
 /* Judges with a route buffer between guard bytes; returns the verdict and leaves the buffer in `route`. */
 static void judge(const uint8_t *exercise, size_t exercise_length, const uint8_t *answer, size_t answer_length,

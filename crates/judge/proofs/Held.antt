@@ -18,11 +18,11 @@ use Rattle.netlist.specs.Cells.{cell, cellNumbers, cellChecks}
 use Rattle.placing.specs.Places.{labAt, outOfRangeAt}
 use Rattle.judge.specs.Judge.{Check, cellCheck, perCell, ofCell, ofLab, labCells, roomChecks, exerciseGroup, answerGroup, cellGroup, placeGroup, labGroup, checksTo51, checks, verdictOf, judged}
 use Rattle.judge.specs.Demands.{AllHold}
-use Rattle.netlist.proofs.Below.{or-parts}
 use Rattle.placing.proofs.Places.{lab-in-range}
 use Rattle.judge.proofs.Broken as broken
 use Rattle.judge.proofs.Broken.{hold-append}
 use Rattle.judge.proofs.Numbers.{all-numbered}
+use Rattle.sheet.proofs.Laws.{or-parts}
 
 -- one check for each cell is a list of one for each cell
 per-cell : (n : ℕ) (b : ℕ → Bool) (l : List ℕ) → perCell n b l ≡ concatMap (λ i. cellCheck n i (b i) ∷ []) l

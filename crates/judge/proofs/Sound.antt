@@ -14,10 +14,9 @@ use Rattle.sheet.specs.Checks.{check, firstNumber}
 use Rattle.sheet.specs.Exercise.{netCount, cellCount, wrongMark, wrongVersion, overLimit, wrongExerciseLength, exerciseNumber}
 use Rattle.sheet.specs.declared.Record.{Record}
 use Rattle.sheet.specs.declared.Record.the-variants.{Combinational, Register, Malformed}
-use Rattle.sheet.proofs.Laws.{by-test}
+use Rattle.sheet.proofs.Laws.{by-test, or-parts}
 use Rattle.netlist.specs.Cells.{cell, malformed, doubleDriver, cellNumber}
 use Rattle.netlist.specs.Tables.{NONE, cellFor, numberAt}
-use Rattle.netlist.proofs.Below.{or-parts}
 use Rattle.netlist.proofs.Carry.{fed-by, number-is, reads, readers, drivers}
 use Rattle.placing.specs.Places.{follows, detachedBy, detachedAt}
 use Rattle.judge.specs.declared.Finding.{Finding}

@@ -10,13 +10,12 @@ use borrow.Author.Tests.{eqb-true, eq-eqb}
 use Rattle.sheet.specs.Lists.{below, firstFrom}
 use Rattle.sheet.specs.Exercise.{cellCount, recordPart, netCount}
 use Rattle.sheet.specs.Record.{recordOf, recordAt, isMalformed, kindOf}
-use Rattle.sheet.proofs.Laws.{by-test}
+use Rattle.sheet.proofs.Laws.{by-test, and-parts}
 use Rattle.sheet.proofs.Scan.{any-below}
 use Rattle.distinct.specs.Rising.{rising, distinct}
 use Rattle.distinct.proofs.Rising.{In, Above, rising-above, in-rising, rising-in, same, distinct-length, in-map, distinct-image, filter-above, in-filter}
 use Rattle.distinct.proofs.Nets.{from-above, in-from, from-in}
 use Rattle.netlist.specs.Cells.{cell}
-use Rattle.netlist.proofs.Below.{and-parts}
 use Rattle.placing.specs.Places.{kindAt, xAt, yAt, leAt, labAt, samePlace, placeTaken}
 use Rattle.placing.proofs.Places.{in-range, kind-of-record}
 use Rattle.labs.specs.Members.{members}

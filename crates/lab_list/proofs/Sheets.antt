@@ -18,10 +18,9 @@ use Rattle.sheet.specs.declared.CombinationalCell.{CombinationalCell}
 use Rattle.sheet.specs.declared.RegisterCell.{RegisterCell}
 use Rattle.sheet.specs.declared.Record.{Record}
 use Rattle.sheet.specs.declared.Record.the-variants.{Combinational, Register, Malformed}
-use Rattle.sheet.proofs.Laws.{by-test}
+use Rattle.sheet.proofs.Laws.{by-test, or-parts}
 use Rattle.distinct.proofs.Rising.{In}
 use Rattle.netlist.specs.Cells.{cell, checksOf, cellChecks}
-use Rattle.netlist.proofs.Below.{or-parts}
 use Rattle.netlist.proofs.Decoded.{good-net}
 use Rattle.route.specs.Table.{Table}
 use Rattle.lab.specs.Rules.{labResult}

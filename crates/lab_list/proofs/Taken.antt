@@ -13,7 +13,7 @@ use Rattle.sheet.specs.Checks.{firstNumber}
 use Rattle.sheet.specs.declared.RegisterCell.{RegisterCell}
 use Rattle.sheet.specs.declared.Record.{Record}
 use Rattle.sheet.specs.declared.Record.the-variants.{Register}
-use Rattle.sheet.proofs.Laws.{by-test}
+use Rattle.sheet.proofs.Laws.{by-test, or-parts}
 use Rattle.distinct.specs.Nets.{markAll, readMarks}
 use Rattle.route.specs.Table.{Table}
 use Rattle.route.specs.Search.{searchFrom}
@@ -24,7 +24,6 @@ use Rattle.lab.specs.Counts.{noCounts, countsAll, markCells, refused, resultFro
 use Rattle.lab.proofs.Folded.{counts-are, marks-cons, nets-are}
 use Rattle.lab.proofs.Result.{result-is}
 use Rattle.netlist.specs.Cells.{registerChecks}
-use Rattle.netlist.proofs.Below.{or-parts}
 use Rattle.netlist.proofs.Decoded.{inputs-good, outputs-good}
 use Rattle.judge.proofs.FitCells.{small-input, small-output, input-of-all, enable-clocked}
 use Rattle.lab_list.specs.declared.CellRecord.{CellRecord}

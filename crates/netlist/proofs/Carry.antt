@@ -16,10 +16,10 @@ use Rattle.sheet.specs.Record.{recordAt, outputs}
 use Rattle.sheet.specs.declared.CombinationalCell.{CombinationalCell}
 use Rattle.sheet.specs.declared.Record.{Record}
 use Rattle.sheet.specs.declared.Record.the-variants.{Combinational, Register, Malformed}
-use Rattle.sheet.proofs.Laws.{by-test}
+use Rattle.sheet.proofs.Laws.{by-test, or-parts, and-parts}
 use Rattle.netlist.specs.Cells.{cell, cellNumbers, driven, drivenTwice, drivenBelow, doubleDriver, another, feeds, isOf, allInputs, readCount, readsAtCin, carryInNotFed, carryOutNotReadOnce, checksOf, cellChecks, cellNumber}
 use Rattle.netlist.specs.Tables.{NONE, readOnce, readEach, withReader, withDriver, readsBelow, readersBelow, driversBelow, cellFor, notFedBy, notReadOnceBy, numberBy}
-use Rattle.netlist.proofs.Below.{or-parts, and-parts, elem-first, elem-rest, eqb-comm, any-append, any-same, any-and, filter-append, filter-in, filter-some, concat-suc, getD-all}
+use Rattle.netlist.proofs.Below.{elem-first, elem-rest, eqb-comm, any-append, any-same, any-and, filter-append, filter-in, filter-some, concat-suc, getD-all}
 use Rattle.netlist.proofs.Decoded.{inputs-good, outputs-good, good-net, good-output, same-net}
 use Rattle.netlist.proofs.Stores.{lastBelow, Once, once-last, once-count, placed, placed-length, placed-at, table-at}
 use Rattle.netlist.proofs.Double.{codeOf, code-net, unconnected}

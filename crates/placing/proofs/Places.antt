@@ -12,7 +12,7 @@ use lib.Dec.{eqb, ltb}
 use borrow.Author.Tests.{ltb-false, ltb-true, lt-leb, eqb-true, not-true}
 use mathlib.Core.Logic.{_⊎_, ⊎-elim}
 use denote.Enum.Declared.{tagOf, declared}
-use Rattle.sheet.proofs.Laws.{by-test}
+use Rattle.sheet.proofs.Laws.{by-test, and-parts, or-parts}
 use Rattle.sheet.proofs.Record.{enum}
 use Rattle.sheet.specs.Signal.{isNet}
 use Rattle.sheet.specs.Exercise.{recordStart, recordPart}
@@ -24,14 +24,6 @@ use Rattle.sheet.specs.Answer.{placeStart, placePart, outOfRange, placedOf, pla
 use Rattle.sheet.specs.declared.Placed.{Placed}
 use Rattle.sheet.specs.declared.Placed.the-variants.{OutOfRange}
 use Rattle.placing.specs.Places.{kindAt, xAt, yAt, leAt, labAt, isOutOfRange, outOfRangeAt, follows, detachedBy, unfedAt, detachedAt}
-
-pub both : (p q : Bool) → p && q ≡ true → (p ≡ true) × (q ≡ true)
-both true q h = (refl, h)
-both false q h = absurd (true≢false (sym h))
-
-neither : (p q : Bool) → p || q ≡ false → (p ≡ false) × (q ≡ false)
-neither true q h = absurd (true≢false h)
-neither false q h = (refl, h)
 
 -- ---- 26
 -- byte k of a part is that of the sheet
@@ -49,11 +41,11 @@ in-range a i h =
     let p = placePart a i in
     let low : (k n : ℕ) → k < 4 → ltb n (byteAt p k) ≡ false → byteAt a (placeStart i + k) ≤ n =
     λ k n l t. rw (part-byte a (placeStart i) 4 k l) at (ltb-false n (byteAt p k) t) in
-    let le = neither _ _ (kept (not (eqb (length p) 4)) (outOfRange p) _ h) .0 in
-    let y = neither (ltb 31 (byteAt p 0) || ltb 31 (byteAt p 1)) (ltb 15 (byteAt p 2)) le .0 in
-    let column : xAt a i ≤ 31 = simp add-zero at (low 0 31 (omega arith) (neither (ltb 31 (byteAt p 0)) (ltb 31 (byteAt p 1)) y .0)) in
-    let row : yAt a i ≤ 31 = low 1 31 (omega arith) (neither (ltb 31 (byteAt p 0)) (ltb 31 (byteAt p 1)) y .1) in
-    let element : leAt a i ≤ 15 = low 2 15 (omega arith) (neither (ltb 31 (byteAt p 0) || ltb 31 (byteAt p 1)) (ltb 15 (byteAt p 2)) le .1) in
+    let le = or-parts _ _ (kept (not (eqb (length p) 4)) (outOfRange p) _ h) .0 in
+    let y = or-parts (ltb 31 (byteAt p 0) || ltb 31 (byteAt p 1)) (ltb 15 (byteAt p 2)) le .0 in
+    let column : xAt a i ≤ 31 = simp add-zero at (low 0 31 (omega arith) (or-parts (ltb 31 (byteAt p 0)) (ltb 31 (byteAt p 1)) y .0)) in
+    let row : yAt a i ≤ 31 = low 1 31 (omega arith) (or-parts (ltb 31 (byteAt p 0)) (ltb 31 (byteAt p 1)) y .1) in
+    let element : leAt a i ≤ 15 = low 2 15 (omega arith) (or-parts (ltb 31 (byteAt p 0) || ltb 31 (byteAt p 1)) (ltb 15 (byteAt p 2)) le .1) in
     (omega arith, omega arith, omega arith)
 
 pub lab-in-range : (a : List ℕ) (i : ℕ) → outOfRangeAt a i ≡ false → labAt a i < 1024
@@ -65,10 +57,10 @@ lab-in-range a i h = let r = in-range a i h in omega arith
 pub climbs : (a : List ℕ) (j i : ℕ) → follows a j i ≡ true → leAt a i + 16 * yAt a j ≡ leAt a j + 1 + 16 * yAt a i
 unfolding follows
 climbs a j i h =
-    let goes = both (eqb (xAt a i) (xAt a j)) _ h .1 in
+    let goes = and-parts (eqb (xAt a i) (xAt a j)) _ h .1 in
     by-test (eqb (leAt a j) 15)
-    (λ t. let g = both (eqb (leAt a i) 0) _ (rw t at goes) in let l = eqb-true (leAt a j) 15 t in let n = eqb-true (leAt a i) 0 (g .0) in let y = eqb-true (yAt a i + 1) (yAt a j) (g .1) in omega arith)
-    (λ t. let g = both (eqb (leAt a i) (leAt a j + 1)) _ (rw t at goes) in let n = eqb-true (leAt a i) (leAt a j + 1) (g .0) in let y = eqb-true (yAt a i) (yAt a j) (g .1) in omega arith)
+    (λ t. let g = and-parts (eqb (leAt a i) 0) _ (rw t at goes) in let l = eqb-true (leAt a j) 15 t in let n = eqb-true (leAt a i) 0 (g .0) in let y = eqb-true (yAt a i + 1) (yAt a j) (g .1) in omega arith)
+    (λ t. let g = and-parts (eqb (leAt a i) (leAt a j + 1)) _ (rw t at goes) in let n = eqb-true (leAt a i) (leAt a j + 1) (g .0) in let y = eqb-true (yAt a i) (yAt a j) (g .1) in omega arith)
 
 -- cells of which each stands where the carry from the one before goes on
 module _ (a : List ℕ) (cell : ℕ → ℕ) where
@@ -135,4 +127,4 @@ unfolding unfedAt detachedAt recordAt
 unfed-stands drivers a nets e i h =
     or-cases (not (eqb (kindAt e i) 1)) (ltb (byteAt e (recordStart i + 10)) 4 && eqb (byteAt e (recordStart i + 11)) 0) h
     (λ k. none-fed drivers a nets i (recordPart e i) (rw (kind-of-record e i) (not-true (eqb (kindAt e i) 1) k)))
-    (λ c. let b = both (ltb (byteAt e (recordStart i + 10)) 4) (eqb (byteAt e (recordStart i + 11)) 0) c in open-unfed drivers a nets i (recordPart e i) (cin-low e i (b .0) (b .1)))
+    (λ c. let b = and-parts (ltb (byteAt e (recordStart i + 10)) 4) (eqb (byteAt e (recordStart i + 11)) 0) c in open-unfed drivers a nets i (recordPart e i) (cin-low e i (b .0) (b .1)))

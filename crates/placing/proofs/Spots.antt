@@ -11,11 +11,10 @@ use lib.Seq.{getD-set-same, getD-set-other}
 use lib.Dec.{eqb}
 use borrow.Author.Tests.{ltb-true, eqb-true, eqb-false, le-ltb, eq-eqb, ne-eqb}
 use Rattle.sheet.specs.Lists.{firstFrom}
-use Rattle.sheet.proofs.Laws.{by-test}
+use Rattle.sheet.proofs.Laws.{by-test, and-parts}
 use Rattle.sheet.proofs.Scan.{any-below}
 use Rattle.placing.specs.Places.{kindAt, xAt, yAt, leAt, labAt, samePlace, placeTaken}
 use Rattle.placing.specs.Marks.{spot, isPlain, mayClash}
-use Rattle.placing.proofs.Places.{both}
 
 -- ---- scans that find nothing
 none-from : (f : ℕ → Bool) (i k : ℕ) → ((m : ℕ) → i ≤ m → m < i + k → f m ≡ false) → firstFrom f i k ≡ i + k
@@ -38,8 +37,8 @@ module _ (e a : List ℕ) where
   pub plain-cell : (i : ℕ) → isPlain e a i ≡ true → (1 ≤ kindAt e i) × (kindAt e i ≤ 2) × (labAt a i < 1024) × (leAt a i < 16)
   unfolding isPlain
   plain-cell i h =
-      let l = both _ _ h in
-      let k = both _ _ (l .0) in
+      let l = and-parts _ _ h in
+      let k = and-parts _ _ (l .0) in
       let n = one-or-two (kindAt e i) (k .0) in
       (n .0, n .1, ltb-true _ _ (k .1), ltb-true _ _ (l .1))
 
@@ -50,9 +49,9 @@ module _ (e a : List ℕ) where
   same-spot : (j i : ℕ) → samePlace e a j i ≡ true → spot e a j ≡ spot e a i
   unfolding spot labAt samePlace
   same-spot j i h =
-      let l = both _ _ h in
-      let y = both _ _ (l .0) in
-      let x = both _ _ (y .0) in
+      let l = and-parts _ _ h in
+      let y = and-parts _ _ (l .0) in
+      let x = and-parts _ _ (y .0) in
       let k = eqb-true (kindAt e j) (kindAt e i) (x .0) in
       let xs = eqb-true (xAt a j) (xAt a i) (x .1) in
       let ys = eqb-true (yAt a j) (yAt a i) (y .1) in

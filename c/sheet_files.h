@@ -1,0 +1,24 @@
+/* What the two examples share: reading a sheet from a file. */
+#ifndef NURIMKKOT_SHEET_FILES_H
+#define NURIMKKOT_SHEET_FILES_H
+
+#include <stdint.h>
+#include <stdio.h>
+
+/* One byte more than the largest legal sheets: a longer file is refused by its length all the same. */
+#define EXERCISE_ROOM 12298
+#define ANSWER_ROOM 2060
+
+/* Reads a file; one that is missing counts as empty. */
+static size_t read_file(const char *path, uint8_t *bytes, size_t room)
+{
+    FILE *file = fopen(path, "rb");
+    size_t length;
+    if (file == NULL)
+        return 0;
+    length = fread(bytes, 1, room, file);
+    fclose(file);
+    return length;
+}
+
+#endif
