@@ -62,7 +62,8 @@ struct nurimkkot_cell {
  * is 0, eight times 255 where it is another. For a LAB of two sheets that pass all rules up to 51 this is what nurimkkot_judge says
  * of that LAB.
  *
- * Any list will do, also one of no cells: then pass any pointer that is not NULL and has the struct's alignment. */
+ * Any list will do, also one of no cells: then pass any pointer that is not NULL and has the struct's alignment. The call uses some
+ * 4 KiB of stack. */
 uint8_t nurimkkot_check_lab(const struct nurimkkot_cell *cells, size_t count, uint8_t route[8]);
 
 /* What the readers below say. */

@@ -16,7 +16,7 @@ use Rattle.placing.specs.Places.{outOfRangeAt, placeTaken}
 use Rattle.netlist.specs.Tables.{NONE}
 use Rattle.judge.specs.declared.Finding.{Finding}
 use Rattle.judge.specs.Judge.{Check, finding, check, ofSheet, perCell, carryNotNext, roomChecks, exerciseGroup, answerGroup, cellGroup, placeGroup, checksTo51, firstBroken}
-use Rattle.judge.specs.Stages.{numbered, atCell}
+use Rattle.judge.specs.Stages.{numberedAs, numbered, atCell}
 use borrow.Author.Needs.{needs}
 use Rattle.judge.proofs.Broken.{Every, first-append, sheet-finds, run-finds, cells-find}
 use Rattle.judge.proofs.Numbers.{To51, known-numbered, every-append, run-known, exercise-known, answer-known, cells-known, cell-numbered}
@@ -72,7 +72,7 @@ answer-finds e a =
 
 -- 30 to 44
 pub cells-finds : (e : List ℕ) → firstBroken (cellGroup e) ≡ numbered (cellNumber e) (cellCount e)
-unfolding cellGroup numbered cellNumber cellChecks
+unfolding cellGroup numberedAs cellNumber cellChecks
 cells-finds e =
     cells-find (cellChecks e) (cellCount e)
     (cell-numbered e)

@@ -2,14 +2,11 @@
 use Prim.Native.Nat.{ℕ, zero, suc, _+_, _<_}
 use native.Mathlib.Omega.{arith}
 use mathlib.Core.Path.{_≡_, refl, sym, ap, _∙_}
-use mathlib.Core.Bool.{true, not}
 use mathlib.Core.List.{List}
 use lib.ListN.{length, replicate}
-use lib.Dec.{eqb, ltb}
-use borrow.Author.Tests.{ltb-true, eqb-true, eqb-false, eq-eqb, not-true, not-false}
-use Rattle.sheet.specs.Lists.{concatMap, from, below, firstFrom}
+use borrow.Author.Tests.{eq-eqb}
+use Rattle.sheet.specs.Lists.{concatMap, from, below}
 use Rattle.sheet.specs.Exercise.{netCount, cellCount}
-use Rattle.sheet.proofs.Laws.{by-test}
 use Rattle.route.specs.Table.{Table}
 use Rattle.lab.specs.Rules.{labChecks, labNumber, routeOf, labResult}
 use Rattle.lab.specs.Counts.{AllFit}
@@ -21,23 +18,15 @@ use Rattle.labs.proofs.Linked.{walk-members}
 use Rattle.labs.proofs.Labs.{result-is-lab}
 use Rattle.labs.proofs.Rows.{rows-put, bytes-eight}
 use Rattle.netlist.specs.Tables.{NONE}
-use Rattle.judge.specs.Judge.{labCells, labGroup, firstBroken}
-use Rattle.judge.specs.Stages.{numberedLab}
+use Rattle.judge.specs.Judge.{finding, labCells, labGroup, firstBroken}
+use Rattle.judge.specs.Stages.{numberedAs, numberedLab}
 use Rattle.judge.proofs.Broken.{labs-find}
 use Rattle.judge.proofs.Numbers.{lab-numbered}
-use Rattle.judge.proofs.Sound.{Sound, first-below, none-below, some-below}
-
--- two numberings that agree on the LABs find the same
-labs-same : (g h : ℕ → ℕ) → ((l : ℕ) → l < 1024 → g l ≡ h l) → numberedLab g ≡ numberedLab h
-unfolding numberedLab
-labs-same g h e =
-    let first : firstFrom (λ l. not (eqb (g l) 0)) 0 1024 ≡ firstFrom (λ l. not (eqb (h l) 0)) 0 1024 = first-below (λ l. not (eqb (g l) 0)) (λ l. not (eqb (h l) 0)) 1024 (λ l b. rw (e l b)) in
-    by-test (ltb (firstFrom (λ l. not (eqb (h l) 0)) 0 1024) 1024)
-    (λ p. rw (first, p, e (firstFrom (λ l. not (eqb (h l) 0)) 0 1024) (ltb-true _ 1024 p)))
-    (λ p. rw (first, p))
+use Rattle.judge.proofs.First.{numbered-same, numbered-none}
+use Rattle.judge.proofs.Sound.{Sound}
 
 pub labs-finds : (t : Table) (e a : List ℕ) → firstBroken (labGroup t e a) ≡ numberedLab (λ l. labNumber t (labCells e a l))
-unfolding labGroup numberedLab labNumber
+unfolding labGroup numberedAs labNumber
 labs-finds t e a = labs-find (λ l. labChecks t (labCells e a l)) 1024 (λ l. lab-numbered t (labCells e a l))
 
 -- the lists by LAB of the answer
@@ -55,20 +44,12 @@ module _ (t : Table) (e a : List ℕ) (s : Sound e) (fits : (l : ℕ) → AllFit
   -- 60 to 65
   pub labs-are : numberedLab (λ l. resultOfLab l .number) ≡ firstBroken (labGroup t e a)
   unfolding labResult
-  labs-are = labs-same _ (λ l. labNumber t (labCells e a l)) (λ l h. ap (λ (r : LabResult). r .number) (result-at l h)) ∙ sym (labs-finds t e a)
+  labs-are = numbered-same _ _ (λ l. labNumber t (labCells e a l)) 1024 (λ l h. ap (λ (r : LabResult). r .number) (result-at l h)) ∙ sym (labs-finds t e a)
 
   -- the route bytes, where no LAB is broken
   module _ (held : firstBroken (labGroup t e a) .number ≡ 0) where
     none-broken : (l : ℕ) → l < 1024 → labNumber t (labCells e a l) ≡ 0
-    unfolding numberedLab
-    none-broken l h =
-        let z : numberedLab (λ k. labNumber t (labCells e a k)) .number ≡ 0 = rw labs-finds at held in
-        by-test (ltb (firstFrom (λ k. not (eqb (labNumber t (labCells e a k)) 0)) 0 1024) 1024)
-        (λ p. absurd (found-zero (λ k. labNumber t (labCells e a k)) p (rw p at z)))
-        (λ p. eqb-true _ 0 (not-false _ (none-below (λ k. not (eqb (labNumber t (labCells e a k)) 0)) 1024 p l h)))
-      where
-        found-zero : (g : ℕ → ℕ) → ltb (firstFrom (λ k. not (eqb (g k) 0)) 0 1024) 1024 ≡ true → g (firstFrom (λ k. not (eqb (g k) 0)) 0 1024) ≡ 0 → ⊥
-        found-zero g p q = eqb-false (g (firstFrom (λ k. not (eqb (g k) 0)) 0 1024)) 0 (not-true _ (some-below (λ k. not (eqb (g k) 0)) 1024 p)) q
+    none-broken l h = numbered-none (λ number lab. finding number NONE lab) (λ m i. refl) (λ k. labNumber t (labCells e a k)) 1024 (rw labs-finds at held) l h
 
     bytes-are : (l : ℕ) → l < 1024 → resultOfLab l .bytes ≡ routeOf t (labCells e a l)
     unfolding labResult

@@ -1,3 +1,4 @@
+pub mod First
 pub mod Broken
 pub mod Numbers
 pub mod Groups

@@ -28,6 +28,7 @@ use Rattle.judge.specs.declared.Finding.{Finding}
 use Rattle.judge.specs.Judge.{Check, finding, perCell, ofLab, labCells, roomChecks, exerciseGroup, answerGroup, labGroup, checksTo51, checks, firstBroken, judged, verdictOf}
 use Rattle.judge.specs.Demands.{AllHold, FourThings, Keeps60to64, Keeps65, labNeeds}
 use Rattle.judge.proofs.Broken.{Every, Numbered, NumberedIn, found, skip-held, hold-append, first-append, legal-hold, breaksOne, labs-find}
+use Rattle.judge.proofs.First.{before-first, first-is}
 use Rattle.judge.proofs.Numbers.{Known, To51, every-weaker, known-numbered, rules-known, lab-numbered, to-51-known}
 use Rattle.placing.proofs.Places.{lab-in-range}
 
@@ -77,23 +78,6 @@ module _ (l : ℕ) (c b : Bool) where
   unfolding AllHold
   to-number [] h q = rw q
   to-number (k ∷ ks) h q = rw (h .0) (to-number ks (h .1) q)
-
--- ---- the first number at which a test holds
-module _ (f : ℕ → Bool) where
-  before-first : (k i j : ℕ) → i ≤ j → j < firstFrom f i k → f j ≡ false
-  unfolding firstFrom
-  before-first zero i j h g = absurd (omega arith)
-  before-first (suc k) i j h g =
-      by-test (f i) (λ q. let g′ : j < i = rw q at g in absurd (omega arith))
-      (λ q. ⊎-elim (λ e. rw (← e) q) (λ m. before-first k (suc i) j m (rw q at g)) (eq-or-lt-of-le h))
-
-  pub first-is : (k i l : ℕ) → i ≤ l → l < i + k → ((j : ℕ) → i ≤ j → j < l → f j ≡ false) → f l ≡ true → firstFrom f i k ≡ l
-  unfolding firstFrom
-  first-is zero i l h m low q = absurd (omega arith)
-  first-is (suc k) i l h m low q =
-      ⊎-elim (λ e. let here : f i ≡ true = rw e q in rw here e)
-      (λ n. rw (low i (omega arith) n) (first-is k (suc i) l n (omega arith) (λ j a b. low j (omega arith) b) q))
-      (eq-or-lt-of-le h)
 
 unset : (n : ℕ) → not (eqb n 0) ≡ false → n ≡ 0
 unset n h = by-test (eqb n 0) (λ q. eqb-true n 0 q) (λ q. absurd (true≢false (rw q at h)))

@@ -1,12 +1,12 @@
 -- What the tables by net and the lists by LAB say of sheets that pass the stages before: they answer document 01's rules. Assumes nothing.
-use Prim.Native.Nat.{ℕ, zero, suc, _+_, _≤_, _<_}
+use Prim.Native.Nat.{ℕ, _≤_, _<_}
 use native.Mathlib.Omega.{arith}
 use mathlib.Core.Path.{_≡_, refl, sym, _∙_}
-use mathlib.Core.Bool.{Bool, true, false, cond, not, _&&_, and-assoc}
+use mathlib.Core.Bool.{false, cond, not, _&&_, and-assoc}
 use mathlib.Core.List.{List, [], _∷_}
 use lib.ListN.{length}
 use lib.Dec.{eqb, ltb}
-use borrow.Author.Tests.{ltb-true, ltb-false, eqb-true, eqb-false, eq-eqb, not-true, not-false}
+use borrow.Author.Tests.{ltb-false, eqb-true, eq-eqb}
 use Rattle.sheet.specs.Lists.{firstFrom}
 use Rattle.sheet.specs.Signal.{isNet, isInverted}
 use Rattle.sheet.specs.Checks as sheet
@@ -22,71 +22,14 @@ use Rattle.placing.specs.Places.{follows, detachedBy, detachedAt}
 use Rattle.judge.specs.declared.Finding.{Finding}
 use Rattle.judge.specs.Judge.{finding, legal, standsApart, carryNotNext, exerciseGroup, cellGroup, placeGroup, firstBroken}
 use Rattle.judge.specs.Stages.{numbered, atCell, placedBy}
+use Rattle.judge.proofs.First.{first-below, none-below, numbered-same}
 use Rattle.judge.proofs.Groups.{then, exercise-finds, cells-finds, places-finds}
-
--- two tests that agree on the numbers looked at find the same
-pub first-same : (f g : ℕ → Bool) (i k : ℕ) → ((j : ℕ) → i ≤ j → j < i + k → f j ≡ g j) → firstFrom f i k ≡ firstFrom g i k
-unfolding firstFrom
-first-same f g i zero h = refl
-first-same f g i (suc k) h = rw (h i (omega arith) (omega arith), first-same f g (suc i) k (λ j p q. h j (omega arith) (omega arith)))
-
-pub first-below : (f g : ℕ → Bool) (n : ℕ) → ((j : ℕ) → j < n → f j ≡ g j) → firstFrom f 0 n ≡ firstFrom g 0 n
-first-below f g n h = first-same f g 0 n (λ j p q. h j (omega arith))
-
--- a scan ends at the end
-pub first-most : (f : ℕ → Bool) (i k : ℕ) → firstFrom f i k ≤ i + k
-unfolding firstFrom
-first-most f i zero = omega arith
-first-most f i (suc k) = by-test (f i) (λ t. rw t (omega arith)) (λ t. rw t (omega (arith, first-most f (suc i) k)))
-
--- a scan that comes to the end has found nothing on the way
-none-from : (f : ℕ → Bool) (i k : ℕ) → i + k ≤ firstFrom f i k → (j : ℕ) → i ≤ j → j < i + k → f j ≡ false
-unfolding firstFrom
-none-from f i zero h j p q = absurd (omega arith)
-none-from f i (suc k) h j p q =
-    by-test (f i) (λ t. let z : i + suc k ≤ i = rw t at h in absurd (omega arith))
-    (λ t. let g : i + suc k ≤ firstFrom f (suc i) k = rw t at h in
-    by-test (eqb j i) (λ m. rw (eqb-true j i m) t)
-    (λ m. none-from f (suc i) k (omega arith) j (after (eqb-false j i m)) (omega arith)))
-  where
-    after : (j ≡ i → ⊥) → suc i ≤ j
-    after d = omega arith
-
-pub none-below : (f : ℕ → Bool) (n : ℕ) → ltb (firstFrom f 0 n) n ≡ false → (j : ℕ) → j < n → f j ≡ false
-none-below f n h j q = let g = ltb-false (firstFrom f 0 n) n h in none-from f 0 n (omega arith) j (omega arith) (omega arith)
-
--- a scan that stops before the end has found what it looked for
-some-from : (f : ℕ → Bool) (i k : ℕ) → firstFrom f i k < i + k → f (firstFrom f i k) ≡ true
-unfolding firstFrom
-some-from f i zero h = absurd (omega arith)
-some-from f i (suc k) h =
-    by-test (f i) (λ t. rw t t) (λ t. rw t (let g : firstFrom f (suc i) k < i + suc k = rw t at h in some-from f (suc i) k (omega arith)))
-
-pub some-below : (f : ℕ → Bool) (n : ℕ) → ltb (firstFrom f 0 n) n ≡ true → f (firstFrom f 0 n) ≡ true
-some-below f n h = let g = ltb-true (firstFrom f 0 n) n h in some-from f 0 n (omega arith)
-
--- two numberings that agree below n find the same
-pub numbered-same : (g h : ℕ → ℕ) (n : ℕ) → ((i : ℕ) → i < n → g i ≡ h i) → numbered g n ≡ numbered h n
-unfolding numbered
-numbered-same g h n e =
-    let first : firstFrom (λ i. not (eqb (g i) 0)) 0 n ≡ firstFrom (λ i. not (eqb (h i) 0)) 0 n = first-below _ _ n (λ i b. rw (e i b)) in
-    by-test (ltb (firstFrom (λ i. not (eqb (h i) 0)) 0 n) n)
-    (λ t. rw (first, t, e (firstFrom (λ i. not (eqb (h i) 0)) 0 n) (ltb-true _ n t)))
-    (λ t. rw (first, t))
 
 -- what 13 and 16 say, as far as the tables need it
 pub record Sound (e : List ℕ) : Type 0 where
   pub nets : netCount e ≤ 1024
   pub cells : cellCount e ≤ 512
   pub single : (i : ℕ) → i < cellCount e → doubleDriver e i ≡ false
-
--- a numbering that finds nothing gives no number
-pub numbered-none : (g : ℕ → ℕ) (n : ℕ) → numbered g n .number ≡ 0 → (i : ℕ) → i < n → g i ≡ 0
-unfolding numbered
-numbered-none g n z i h =
-    by-test (ltb (firstFrom (λ j. not (eqb (g j) 0)) 0 n) n)
-    (λ p. absurd (eqb-false (g (firstFrom (λ j. not (eqb (g j) 0)) 0 n)) 0 (not-true _ (some-below (λ j. not (eqb (g j) 0)) n p)) (rw p at z)))
-    (λ p. eqb-true (g i) 0 (not-false _ (none-below (λ j. not (eqb (g j) 0)) n p i h)))
 
 module _ (e a : List ℕ) (s : Sound e) where
   detached-cell : (i : ℕ) (c : Record) → detachedBy (drivers e 1024 (cellCount e)) a i c ≡ standsApart e a i c
@@ -111,7 +54,7 @@ module _ (e a : List ℕ) (s : Sound e) where
 
   pub cells-are : numbered (numberAt (reads e 1024 (cellCount e)) (readers e 1024 (cellCount e)) (drivers e 1024 (cellCount e)) (netCount e) e) (cellCount e)
       ≡ firstBroken (cellGroup e)
-  cells-are = numbered-same _ (cellNumber e) (cellCount e) numbers-are ∙ sym (cells-finds e)
+  cells-are = numbered-same _ _ (cellNumber e) (cellCount e) numbers-are ∙ sym (cells-finds e)
 
   -- 50 and 51
   pub places-are : placedBy (drivers e 1024 (cellCount e)) (netCount e) (cellCount e) e a ≡ firstBroken (placeGroup e a)

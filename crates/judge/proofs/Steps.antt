@@ -28,13 +28,14 @@ use Rattle.judge.specs.declared.Finding.{Finding}
 use Rattle.judge.specs.declared.Part.{Part}
 use Rattle.judge.specs.declared.Verdict.{Verdict}
 use Rattle.judge.specs.Judge.{finding, legal, ofAnswer, exerciseGroup, answerGroup, cellGroup, placeGroup, labGroup, checksTo51, checks, labCells, firstBroken, firstOr, lowestIn, verdictOf, judged, bytesOf, routed}
-use Rattle.judge.specs.Stages.{numbered, numberedLab, placedBy, numbersOf}
+use Rattle.judge.specs.Stages.{numberedAs, numbered, numberedLab, placedBy, numbersOf}
 use Rattle.judge.proofs.Broken.{first-append}
 use Rattle.judge.proofs.Numbers.{known-numbered, to-51-known}
 use Rattle.judge.proofs.Groups.{then, exercise-finds, answer-finds, cells-finds, cells-places-find, to-51-finds}
 use Rattle.judge.proofs.FitCells.{lab-fit}
 use Rattle.judge.proofs.LabsFound.{linked, labs-are, routes-are}
-use Rattle.judge.proofs.Sound.{Sound, sound-of, limits, first-most, some-below, numbered-none, then-first, then-second, cells-are, places-are}
+use Rattle.judge.proofs.First.{first-most, some-below, numbered-none}
+use Rattle.judge.proofs.Sound.{Sound, sound-of, limits, then-first, then-second, cells-are, places-are}
 
 -- ---- a finding, and the next where it is nothing
 then-stays : (f g : Finding) {r : Finding} → (f .number ≡ 0 → ⊥) → r ≡ f → r ≡ then f g
@@ -93,19 +94,19 @@ pub ruleset answer-steps = (answer-refused, answer-count, answer-length, answer-
 -- ---- the first number that is not 0
 module _ (g : ℕ → ℕ) where
   pub cell-stops : (cells i n : ℕ) {r : Finding} → i ≡ firstFrom (λ j. not (eqb (g j) 0)) 0 cells → i < cells → n ≡ g i → r ≡ cond (ltb i cells) (finding n i NONE) legal → r ≡ numbered g cells
-  unfolding numbered
+  unfolding numberedAs
   cell-stops cells i n at h e a = rw (← at) (rw (lt-ltb i cells h, ← e) (a ∙ rw (lt-ltb i cells h)))
 
   pub cell-ends : (cells i : ℕ) {r : Finding} → i ≡ firstFrom (λ j. not (eqb (g j) 0)) 0 cells → cells ≤ i → r ≡ legal → r ≡ numbered g cells
-  unfolding numbered
+  unfolding numberedAs
   cell-ends cells i at h a = rw (← at) (rw (le-ltb i cells h) a)
 
   pub lab-stops : (l n : ℕ) → l ≡ firstFrom (λ j. not (eqb (g j) 0)) 0 1024 → l < 1024 → n ≡ g l → finding n NONE l ≡ numberedLab g
-  unfolding numberedLab
+  unfolding numberedAs
   lab-stops l n at h e = rw (← at) (rw (lt-ltb l 1024 h, ← e))
 
   pub lab-ends : (l : ℕ) {r : Finding} → l ≡ firstFrom (λ j. not (eqb (g j) 0)) 0 1024 → 1024 ≤ l → r ≡ legal → r ≡ numberedLab g
-  unfolding numberedLab
+  unfolding numberedAs
   lab-ends l at h a = rw (← at) (rw (le-ltb l 1024 h) a)
 
 -- ---- 30 to 44, from the tables
@@ -266,7 +267,7 @@ module _ (t : Table) (e a : List ℕ) (room : ℕ) (passed : firstBroken (checks
   cell-zero =
       let past = then-second (firstBroken (answerGroup e a)) _ (then-second (firstBroken (exerciseGroup e)) _ (past-room .1)) in
       let cells = then-first (firstBroken (cellGroup e)) (firstBroken (placeGroup e a)) (rw cells-places-find at past) in
-      numbered-none (cellNumber e) (cellCount e) (rw cells-finds at cells)
+      numbered-none _ (λ m i. refl) (cellNumber e) (cellCount e) (rw cells-finds at cells)
 
   fits : (l : ℕ) → AllFit (labCells e a l)
   unfolding cellNumber

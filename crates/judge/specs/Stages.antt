@@ -10,19 +10,19 @@ use Rattle.judge.specs.declared.Finding.{Finding}
 use Rattle.judge.specs.declared.Verdict.{Verdict}
 use Rattle.judge.specs.Judge.{finding, legal}
 
--- the first cell below n that g gives a number, with that number
-unfoldable pub numbered : (ℕ → ℕ) → ℕ → Finding
-numbered g n =
+-- the first place below n that g gives a number, with that number
+unfoldable pub numberedAs : (ℕ → ℕ → Finding) → (ℕ → ℕ) → ℕ → Finding
+numberedAs found g n =
     cond (ltb (firstFrom (λ i. not (eqb (g i) 0)) 0 n) n)
-    (finding (g (firstFrom (λ i. not (eqb (g i) 0)) 0 n)) (firstFrom (λ i. not (eqb (g i) 0)) 0 n) NONE)
+    (found (g (firstFrom (λ i. not (eqb (g i) 0)) 0 n)) (firstFrom (λ i. not (eqb (g i) 0)) 0 n))
     legal
 
--- the first LAB that g gives a number, with that number
-unfoldable pub numberedLab : (ℕ → ℕ) → Finding
-numberedLab g =
-    cond (ltb (firstFrom (λ l. not (eqb (g l) 0)) 0 1024) 1024)
-    (finding (g (firstFrom (λ l. not (eqb (g l) 0)) 0 1024)) NONE (firstFrom (λ l. not (eqb (g l) 0)) 0 1024))
-    legal
+-- of the cells below n, and of the LABs
+abbrev pub numbered : (ℕ → ℕ) → ℕ → Finding
+numbered = numberedAs (λ number i. finding number i NONE)
+
+abbrev pub numberedLab : (ℕ → ℕ) → Finding
+numberedLab g = numberedAs (λ number l. finding number NONE l) g 1024
 
 -- what a run over n cells finds that stops at i
 abbrev pub atCell : ℕ → ℕ → ℕ → Finding

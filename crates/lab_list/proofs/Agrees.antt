@@ -21,7 +21,7 @@ use Rattle.netlist.specs.Tables.{NONE}
 use Rattle.labs.specs.Members.{members}
 use Rattle.judge.specs.declared.Finding.{Finding}
 use Rattle.judge.specs.Judge.{labCells, labGroup, checksTo51, checks, firstBroken, verdictOf, judged, routed}
-use Rattle.judge.specs.Stages.{numberedLab}
+use Rattle.judge.specs.Stages.{numberedAs, numberedLab}
 use Rattle.judge.specs.Demands.{AllHold}
 use Rattle.judge.proofs.Broken.{skip-held}
 use Rattle.judge.proofs.LabsFound.{labs-finds}
@@ -51,7 +51,7 @@ module _ (g : ℕ → List ℕ) (eight : (l : ℕ) → length (g l) ≡ 8) where
 
 -- a LAB that a numbering of the LABs names has the number that is found: where none is found, no LAB is named
 named-number : (g : ℕ → ℕ) (l : ℕ) → l < 1024 → numberedLab g .lab ≡ l → numberedLab g .number ≡ g l
-unfolding numberedLab
+unfolding numberedAs
 named-number g l low v =
     let at-first = firstFrom (λ j. not (eqb (g j) 0)) 0 1024 in
     by-test (ltb at-first 1024) (λ q. let here : at-first ≡ l = rw q at v in rw (q, here))
