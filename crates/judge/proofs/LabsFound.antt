@@ -22,7 +22,7 @@ use Rattle.judge.specs.Judge.{finding, labCells, labGroup, firstBroken}
 use Rattle.judge.specs.Stages.{numberedAs, numberedLab}
 use Rattle.judge.proofs.Broken.{labs-find}
 use Rattle.judge.proofs.Numbers.{lab-numbered}
-use Rattle.judge.proofs.First.{numbered-same, numbered-none}
+use Rattle.judge.proofs.Numbering.{numbered-same, numbered-none}
 use Rattle.judge.proofs.Sound.{Sound}
 
 pub labs-finds : (t : Table) (e a : List ℕ) → firstBroken (labGroup t e a) ≡ numberedLab (λ l. labNumber t (labCells e a l))

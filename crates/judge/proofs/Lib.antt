@@ -1,4 +1,4 @@
-pub mod First
+pub mod Numbering
 pub mod Broken
 pub mod Numbers
 pub mod Groups

@@ -28,7 +28,7 @@ use Rattle.judge.specs.declared.Finding.{Finding}
 use Rattle.judge.specs.Judge.{Check, finding, perCell, ofLab, labCells, roomChecks, exerciseGroup, answerGroup, labGroup, checksTo51, checks, firstBroken, judged, verdictOf}
 use Rattle.judge.specs.Demands.{AllHold, FourThings, Keeps60to64, Keeps65, labNeeds}
 use Rattle.judge.proofs.Broken.{Every, Numbered, NumberedIn, found, skip-held, hold-append, first-append, legal-hold, breaksOne, labs-find}
-use Rattle.judge.proofs.First.{before-first, first-is}
+use Rattle.sheet.proofs.First.{before-first, first-is}
 use Rattle.judge.proofs.Numbers.{Known, To51, every-weaker, known-numbered, rules-known, lab-numbered, to-51-known}
 use Rattle.placing.proofs.Places.{lab-in-range}
 

@@ -20,7 +20,7 @@ use Rattle.judge.specs.Judge.{finding, perCell, standsApart, carryNotNex
 use Rattle.judge.specs.Demands.{AllHold}
 use Rattle.judge.proofs.Broken.{first-append, skip-held, run-finds}
 use Rattle.judge.proofs.Numbers.{known-numbered, to-51-known}
-use Rattle.judge.proofs.First.{none-below}
+use Rattle.sheet.proofs.First.{none-below}
 
 -- the cout of cell j is the cin of cell i
 pub record FedBy (e : List ℕ) (j i : ℕ) : Type 0 where

@@ -22,7 +22,8 @@ use Rattle.placing.specs.Places.{follows, detachedBy, detachedAt}
 use Rattle.judge.specs.declared.Finding.{Finding}
 use Rattle.judge.specs.Judge.{finding, legal, standsApart, carryNotNext, exerciseGroup, cellGroup, placeGroup, firstBroken}
 use Rattle.judge.specs.Stages.{numbered, atCell, placedBy}
-use Rattle.judge.proofs.First.{first-below, none-below, numbered-same}
+use Rattle.sheet.proofs.First.{first-below, none-below}
+use Rattle.judge.proofs.Numbering.{numbered-same}
 use Rattle.judge.proofs.Groups.{then, exercise-finds, cells-finds, places-finds}
 
 -- what 13 and 16 say, as far as the tables need it

@@ -34,7 +34,8 @@ use Rattle.judge.proofs.Numbers.{known-numbered, to-51-known}
 use Rattle.judge.proofs.Groups.{then, exercise-finds, answer-finds, cells-finds, cells-places-find, to-51-finds}
 use Rattle.judge.proofs.FitCells.{lab-fit}
 use Rattle.judge.proofs.LabsFound.{linked, labs-are, routes-are}
-use Rattle.judge.proofs.First.{first-most, some-below, numbered-none}
+use Rattle.sheet.proofs.First.{first-most, some-below}
+use Rattle.judge.proofs.Numbering.{numbered-none}
 use Rattle.judge.proofs.Sound.{Sound, sound-of, limits, then-first, then-second, cells-are, places-are}
 
 -- ---- a finding, and the next where it is nothing

@@ -19,7 +19,7 @@ use Rattle.netlist.specs.Cells.{cell}
 use Rattle.placing.specs.Places.{kindAt, xAt, yAt, leAt, labAt, samePlace, placeTaken}
 use Rattle.placing.proofs.Places.{in-range, kind-of-record}
 use Rattle.labs.specs.Members.{members}
-use Rattle.judge.proofs.First.{none-below, first-is}
+use Rattle.sheet.proofs.First.{none-below, first-is}
 use Rattle.lab_list.proofs.Kept.{Kept}
 
 -- a rising list has each of its numbers once

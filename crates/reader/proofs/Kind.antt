@@ -1,9 +1,11 @@
--- What the walks of `open_exercise` and `open_answer`, of `next_record` and `next_place`, and of `read_record` and `read_place` are over: each pair has one MIR but for names, so it is walked once (`OpenWalk.antt`, `NextWalk.antt`, `ReadWalk.antt`), over a `Kind`.
---     Kind                 the struct that a reader is, its fields, what it gives, and the two definitions that say what it gives and where it goes on
---     exercise, answer     the two
---     sheetSpec            the contract of a function that takes a slice and a number, and answers f of them
---     nextEnded, nextClauses       the signature of a function to which the struct is lent, and its contract, over what it ensures.        readEnded, readClauses       the same of one that takes a slice and a number lent
---     openEnded, openClauses       the same of one that makes the struct of a slice
+-- What the walks of the readers are over. `open_exercise` and `open_answer` have one MIR but for names, and so have `next_record` and
+-- `next_place`, and `read_record` and `read_place`: each pair is walked once (`OpenWalk.antt`, `NextWalk.antt`, `ReadWalk.antt`), over a `Kind`.
+--     Kind                      the struct that a reader is, its fields, and the definitions of which number applies, what it gives, where it goes on
+--     exercise, answer          the two
+--     headSpec, sheetSpec       the contract of a function that takes a slice, and of one that takes a slice and a number, and answers f of them
+--     nextEnded, nextClauses    the signature of a function to which the struct is lent, and its contract, over what it ensures
+--     readEnded, readClauses    the same of one that takes a slice and a number lent
+--     openEnded, openClauses    the same of one that takes a slice and a number lent, and makes the struct of the slice
 -- Assumes nothing.
 use mathlib.Core.Path.{_≡_, refl}
 use Prim.Native.Nat.{ℕ}
@@ -35,6 +37,8 @@ use denote.Triple.Entry.{Args, Res}
 use denote.Triple.Spec.{tripleOf}
 use denote.Exit.{yes}
 use denote.Triple.Clauses.{Ended, Clauses, AtExit, closing}
+use Rattle.sheet.specs.Exercise.{exerciseNumber}
+use Rattle.sheet.specs.Answer.{openingNumber}
 use Rattle.reader.specs.Reader.{exerciseStepAt, nextExercise, answerStepAt, nextAnswer}
 use Rattle.reader.specs.declared.ExerciseReader.{ExerciseReader}
 use Rattle.reader.specs.declared.AnswerReader.{AnswerReader}
@@ -60,7 +64,8 @@ pub record Kind : Type 2 where
   pub Step : RattleType
   pub stepTy : Ty
   pub step-typed : {M : Type 1} (𝓤 : URA M) (H : Heap 𝓤) (A : Atoms 𝓤) → Given 𝓤 H A → (r : Step .Denot) (u : Val) → Is Step r (u ∷ []) → Holds (hasTy stepTy u) × WT u
-  -- what stands at a number, and the number after it
+  -- the number of the refusal that applies, what stands at a number, and the number after it
+  pub opens : List ℕ → ℕ
   pub stepAt : List ℕ → ℕ → Step .Denot
   pub nextAt : List ℕ → ℕ → ℕ
 
@@ -95,6 +100,17 @@ readerTy K ℓ = tyStruct (K .name) (tcons (bytesTy ℓ) (tcons (tyInt w16) tnil
 -- the machine value of the struct of s and n
 abbrev pub mach : RefT (List ℕ) → ℕ → Val
 mach s n = vstruct (vcons (sliceVal (s .ptr) (length (s .now))) (vcons (vint w16 n) vnil))
+
+-- ---- a function that takes a slice
+abbrev pub headEnded : Ended
+headEnded = record { signature = record { lifetimes = 1; outlives = []; params = shrSliceOf (0 ∷ []) tt (plain (λ _. u8)) ∷ []; result = plain (λ _. u8) }; kept = (yes, tt) }
+
+module _ {M : Type 1} (𝓤 : URA M) (H : Heap 𝓤) (A : Atoms 𝓤) (f : List ℕ → ℕ) where
+  abbrev pub headClauses : Clauses 𝓤 headEnded
+  headClauses κs a = record { ghost = Unit {0}; requires = λ _. emp 𝓤; ensures = λ _ r _. fact 𝓤 (r ≡ f (now (a .0))) }
+
+  abbrev pub headSpec : Contract 𝓤
+  headSpec = tripleOf 𝓤 H A (headEnded .signature) (closing 𝓤 H A headEnded headClauses)
 
 -- ---- a function that takes a slice and a number
 module _ (X : RattleType) where
@@ -135,12 +151,12 @@ module _ {M : Type 1} (𝓤 : URA M) (K : Kind) (ens : ReadEns 𝓤 K) where
   abbrev pub readClauses : Clauses 𝓤 (readEnded K)
   readClauses κs a = record { ghost = Unit {0}; requires = λ _. emp 𝓤; ensures = λ _ r e. ens κs a r e }
 
--- ---- a function that makes the struct of a slice
+-- ---- a function that takes a slice and a number lent, and makes the struct of the slice
 abbrev pub openEnded : Kind → Ended
-openEnded K = record { signature = record { lifetimes = 1; outlives = []; params = shrSliceOf (0 ∷ []) tt (plain (λ _. u8)) ∷ []; result = plain (λ κs. rowAt K (namedLft 1 0 tt κs)) }; kept = (yes, tt) }
+openEnded K = record { signature = record { lifetimes = 2; outlives = []; params = shrSliceOf (0 ∷ []) tt (plain (λ _. u8)) ∷ mutRefTo (1 ∷ []) tt (plain (λ _. u8)) ∷ []; result = plain (λ κs. rowAt K (namedLft 2 0 tt κs)) }; kept = (yes, (yes, tt)) }
 
 abbrev pub OpenEns : {M : Type 1} → URA M → Kind → Type 2
-OpenEns 𝓤 K = (κs : Lfts 1) → Args (openEnded K .signature) κs → Res (openEnded K .signature) κs → AtExit (openEnded K) κs → SProp 𝓤
+OpenEns 𝓤 K = (κs : Lfts 2) → Args (openEnded K .signature) κs → Res (openEnded K .signature) κs → AtExit (openEnded K) κs → SProp 𝓤
 
 module _ {M : Type 1} (𝓤 : URA M) (K : Kind) (ens : OpenEns 𝓤 K) where
   abbrev pub openClauses : Clauses 𝓤 (openEnded K)
@@ -158,6 +174,7 @@ exercise = record {
   Step = S.the-row;
   stepTy = S′.mir;
   step-typed = λ 𝓤 H A W r u is. EL.lawful S.the-type S′.the-laws 𝓤 H A W tt .typed r _ is .0;
+  opens = exerciseNumber;
   stepAt = exerciseStepAt;
   nextAt = nextExercise;
 }
@@ -173,6 +190,7 @@ answer = record {
   Step = P.the-row;
   stepTy = P′.mir;
   step-typed = λ 𝓤 H A W r u is. EL.lawful P.the-type P′.the-laws 𝓤 H A W tt .typed r _ is .0;
+  opens = openingNumber;
   stepAt = answerStepAt;
   nextAt = nextAnswer;
 }

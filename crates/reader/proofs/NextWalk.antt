@@ -1,5 +1,8 @@
--- The walk of `next_record` and `next_place`: the borrow is opened, the two callees are each called on the slice and the number that the struct holds, the number that the second answered is stored, and the borrow is closed at the struct with it. All that is known of a callee is that it meets its contract.
--- The struct is Copy: for each call what it owns is had twice, of one copy what the slice owns goes to the callee, beside 'a's token, which comes back, and the other is kept.
+-- The walk of `next_record` and `next_place`: the borrow is opened, the two callees are each called on the slice and the number that the struct
+-- holds, the number that the second answered is stored, and the borrow is closed at the struct with it. All that is known of a callee is that it
+-- meets its contract.
+-- The struct is Copy: for each call what it owns is had twice, of one copy what the slice owns goes to the callee, beside 'a's token, which comes
+-- back, and the other is kept.
 -- What the contract ensures is the instance's to show: `holds`. Assumes nothing.
 use mathlib.Core.Path.{_≡_, refl, sym, ap, subst}
 use Prim.Native.Nat.{ℕ, _<_, _^_}

@@ -1,4 +1,6 @@
--- The walk of `read_record` and `read_place`: the number is read through its borrow, which stays open; a struct is made in a local and lent for the call, for a lifetime within the slice's own; the number that it holds afterwards is stored; and the borrow is closed at it. All that is known of the callee is that it meets its contract.
+-- The walk of `read_record` and `read_place`: the number is read through its borrow, which stays open; a struct is made in a local and lent for
+-- the call, for a lifetime within the slice's own; the number that it holds afterwards is stored; and the borrow is closed at it. All that is
+-- known of the callee is that it meets its contract.
 -- What the contract ensures is the instance's to show: `holds`. Assumes nothing.
 use mathlib.Core.Path.{_≡_, refl, sym, ap, subst, _∙_}
 use Prim.Native.Nat.{ℕ, _<_, _^_}

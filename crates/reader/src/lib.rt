@@ -104,10 +104,12 @@ pub fn answer_next(answer: &[u8], at: u16) -> u16
     }
 }
 
-// A reader of an exercise, before its first record.
-pub fn open_exercise<'a>(sheet: &'a [u8]) -> ExerciseReader<'a>
-    ensures { λ r. ⌜ (r .sheet ≡ sheet .entry) × (r .at ≡ 0) ⌝ }
+// A reader of an exercise, before its first record, and the number of 10 to 14 that applies to the exercise, or 0.
+pub fn open_exercise<'a>(sheet: &'a [u8], number: &mut u8) -> ExerciseReader<'a>
+    ensures reader { λ r. ⌜ (r .sheet ≡ sheet .entry) × (r .at ≡ 0) ⌝ }
+    ensures number { λ _. ⌜ now (number .exit) ≡ exerciseNumber (now (sheet .entry)) ⌝ }
 {
+    *number = exercise_opens(sheet);
     ExerciseReader { sheet, at: 0 }
 }
 
@@ -121,10 +123,12 @@ pub fn next_record<'s, 'a>(r: &'s mut ExerciseReader<'a>) -> ExerciseStep
     step
 }
 
-// A reader of an answer, before its first record.
-pub fn open_answer<'a>(sheet: &'a [u8]) -> AnswerReader<'a>
-    ensures { λ r. ⌜ (r .sheet ≡ sheet .entry) × (r .at ≡ 0) ⌝ }
+// A reader of an answer, before its first record, and the number of 20 to 25 without 24 that applies to the answer, or 0.
+pub fn open_answer<'a>(sheet: &'a [u8], number: &mut u8) -> AnswerReader<'a>
+    ensures reader { λ r. ⌜ (r .sheet ≡ sheet .entry) × (r .at ≡ 0) ⌝ }
+    ensures number { λ _. ⌜ now (number .exit) ≡ openingNumber (now (sheet .entry)) ⌝ }
 {
+    *number = answer_opens(sheet);
     AnswerReader { sheet, at: 0 }
 }
 

@@ -1,3 +1,4 @@
 pub mod Laws
+pub mod First
 pub mod Scan
 pub mod Signals

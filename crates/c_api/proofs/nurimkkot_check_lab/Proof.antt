@@ -1,5 +1,7 @@
--- `c_api::nurimkkot_check_lab` meets its contract: a walk of its MIR, by hand. The list goes on to `check_list`, and its result with the route bytes to `tell`. All that the proof knows of the two is that each meets its contract.
--- The slice reference is Copy: one copy of what it owns goes to `check_list`, and the other is kept for the exit. The reference to the route bytes goes to `tell` for good, at its own lifetime, share and ghost name; what `tell` says of the last bytes is what is said at exit.
+-- `c_api::nurimkkot_check_lab` meets its contract: a walk of its MIR, by hand. The list goes on to `check_list`, and its result with the route
+-- bytes to `tell`. All that the proof knows of the two is that each meets its contract.
+-- The slice reference is Copy: one copy of what it owns goes to `check_list`, and the other is kept for the exit. The reference to the route bytes
+-- goes to `tell` for good, at its own lifetime, share and ghost name; what `tell` says of the last bytes is what is said at exit.
 -- Assumes nothing.
 use mathlib.Core.Path.{_≡_, refl, _∙_, ap}
 use Prim.Native.Nat.{ℕ}
