@@ -375,11 +375,22 @@ fn run_examples(both: &mut Both, pattern: &[u8]) {
             });
         let end = a.len() as u64;
         let (want, routes) = match &x.expect {
-            Expect::Legal(routes) => ([0, NO, NO, x.sheets.apprentice as u64, 1, end, 0], Some(routes)),
+            Expect::Legal(routes) => (
+                [0, NO, NO, x.sheets.apprentice as u64, 1, end, 0],
+                Some(routes),
+            ),
             Expect::Refused(number, cell, lab, [sheet, start, size]) => {
                 let apprentice = if *number < 24 { 0 } else { x.sheets.apprentice };
                 (
-                    [*number, *cell, *lab, apprentice as u64, *sheet, *start, *size],
+                    [
+                        *number,
+                        *cell,
+                        *lab,
+                        apprentice as u64,
+                        *sheet,
+                        *start,
+                        *size,
+                    ],
                     None,
                 )
             }
@@ -432,7 +443,10 @@ fn compare_forms(
 /// What the readers and the list check gave, and whether some case did not occur.
 fn report_forms(seen: &forms::Counts) -> bool {
     let by_number = |title: &str, counts: &[u64; 256], numbers: &[usize]| {
-        let each: Vec<String> = numbers.iter().map(|&n| format!("{n}: {}", counts[n])).collect();
+        let each: Vec<String> = numbers
+            .iter()
+            .map(|&n| format!("{n}: {}", counts[n]))
+            .collect();
         println!("{title}: {}", each.join(", "));
         numbers.iter().any(|&n| counts[n] == 0)
     };
@@ -442,8 +456,15 @@ fn report_forms(seen: &forms::Counts) -> bool {
         println!("{what} read: {}, broken: {}, end: {}", n[0], n[1], n[2]);
         missing |= n.contains(&0);
     }
-    missing |= by_number("lists, by number", &seen.lists, &[0, 18, 60, 61, 62, 63, 64, 65]);
-    println!("lists of a LAB of which the judge says the same: {}", seen.judged);
+    missing |= by_number(
+        "lists, by number",
+        &seen.lists,
+        &[0, 18, 60, 61, 62, 63, 64, 65],
+    );
+    println!(
+        "lists of a LAB of which the judge says the same: {}",
+        seen.judged
+    );
     missing || seen.judged == 0
 }
 

@@ -54,13 +54,17 @@ fn read_both<T: Copy + PartialEq + std::fmt::Debug>(
     loop {
         let (a, b) = (proved(at), plain(at));
         if a != b {
-            return Err(format!("the readers differ at {at}: proved {a:?}, plain {b:?}\n"));
+            return Err(format!(
+                "the readers differ at {at}: proved {a:?}, plain {b:?}\n"
+            ));
         }
         counts[place_of(&a.0)] += 1;
         let (step, next) = a;
         let stays = !matches!(step, Step::Given(_));
         if stays != (next == at) {
-            return Err(format!("the reader at {at} goes on at {next} after {step:?}\n"));
+            return Err(format!(
+                "the reader at {at} goes on at {next} after {step:?}\n"
+            ));
         }
         if stays {
             return Ok((at, matches!(step, Step::Broken)));
@@ -86,7 +90,11 @@ pub fn readers(
 ) -> Result<(), String> {
     let number = verdict.number;
     let opened = [proved::open_exercise(exercise), proved::open_answer(answer)];
-    same("opening the exercise", opened[0], plain::open_exercise(exercise))?;
+    same(
+        "opening the exercise",
+        opened[0],
+        plain::open_exercise(exercise),
+    )?;
     same("opening the answer", opened[1], plain::open_answer(answer))?;
     for n in opened {
         counts.openings[n as usize] += 1;
@@ -116,12 +124,20 @@ pub fn readers(
         0,
     )?;
     if number == 15 {
-        same("records before the judge's cell", (records, broken), (verdict.cell, true))?;
+        same(
+            "records before the judge's cell",
+            (records, broken),
+            (verdict.cell, true),
+        )?;
     } else if number == 0 || number > 15 {
         same("a record breaks the layout", broken, false)?;
     }
     if number == 26 {
-        same("places before the judge's cell", (places, misplaced), (verdict.cell, true))?;
+        same(
+            "places before the judge's cell",
+            (places, misplaced),
+            (verdict.cell, true),
+        )?;
     } else if number == 0 || number > 26 {
         same("a place is out of range", misplaced, false)?;
         same("places beside cells", places, records)?;

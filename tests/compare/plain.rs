@@ -166,9 +166,7 @@ fn earliest(roles: &[usize], way: &mut Vec<u8>) -> bool {
 
 pub fn check_list(list: &[CellRecord]) -> (u8, [u8; 8]) {
     let none = [255; 8];
-    let unfit = |c: &CellRecord| {
-        !keeps_layout(c, 1024) || (c.kind == 2 && breaks_register_rule(c))
-    };
+    let unfit = |c: &CellRecord| !keeps_layout(c, 1024) || (c.kind == 2 && breaks_register_rule(c));
     if list.len() > 32 || list.iter().any(unfit) {
         return (18, none);
     }
@@ -229,7 +227,10 @@ pub fn check_list(list: &[CellRecord]) -> (u8, [u8; 8]) {
     }
     let first = [0, 2, 4, 6, 7];
     let (mut roles, mut bytes) = (Vec::new(), Vec::new());
-    for (role, set) in [&*clks, &*enas, &*aclrs, &sclrs, &sloads].into_iter().enumerate() {
+    for (role, set) in [&*clks, &*enas, &*aclrs, &sclrs, &sloads]
+        .into_iter()
+        .enumerate()
+    {
         for (k, _) in set.iter().filter(|&&v| is_net(v)).enumerate() {
             roles.push(role);
             bytes.push(first[role] + k);
