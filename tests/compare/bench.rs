@@ -1,5 +1,6 @@
 //! Time per judgement of the proved judge and of the Rust judge on the same
-//! sheets, and how it grows with the number of cells.
+//! sheets, and how it grows with the number of cells; then the list check and the
+//! readers beside plain ones.
 
 mod generate;
 mod judge;
@@ -7,6 +8,7 @@ mod plain;
 mod proved;
 
 use generate::*;
+use plain::{CellRecord, Step};
 use std::hint::black_box;
 use std::time::{Duration, Instant};
 
@@ -153,6 +155,86 @@ fn median(mut v: Vec<f64>) -> f64 {
     v[v.len() / 2]
 }
 
+/// The list check and the readers beside the plain ones, on LABs and sheets of the
+/// legal kind.
+fn forms(rng: &mut Rng) {
+    println!();
+    println!("list check and readers, median of {RUNS} runs over {VARIANTS} inputs");
+    println!(
+        "{:<31}{:>6}{:>13}{:>13}{:>8}",
+        "call", "cells", "proved us", "plain us", "ratio"
+    );
+    for size in SIZES {
+        let mut inputs = Vec::new();
+        for _ in 0..VARIANTS {
+            let s = sheets(rng, size, false, Outcome::Legal);
+            inputs.push((s.exercise(), s.answer()));
+        }
+        if size <= 32 {
+            // One LAB: the whole exercise is its list.
+            let list = |e: &[u8]| -> Vec<CellRecord> {
+                e[9..].chunks_exact(24).map(plain::record).collect()
+            };
+            let lists: Vec<Vec<CellRecord>> = inputs.iter().map(|(e, _)| list(e)).collect();
+            for l in &lists {
+                assert_eq!(proved::check_lab(l).0, 0);
+            }
+            compare(
+                "check of one LAB",
+                size,
+                &lists,
+                |l| {
+                    black_box(proved::check_lab(l));
+                },
+                |l| {
+                    black_box(plain::check_list(l));
+                },
+            );
+        }
+        let read = |next: fn(&[u8], u16) -> (Step<CellRecord>, u16), e: &[u8]| {
+            let mut at = 0;
+            while let (Step::Given(c), n) = next(e, at) {
+                black_box(c);
+                at = n;
+            }
+            assert_eq!(at as usize, size);
+        };
+        compare(
+            "reader, all cells",
+            size,
+            &inputs,
+            |(e, _)| read(proved::next_cell, e),
+            |(e, _)| read(plain::next_cell, e),
+        );
+    }
+}
+
+/// One line: both on the same inputs, in turn.
+fn compare<T>(
+    what: &str,
+    size: usize,
+    inputs: &[T],
+    mut proved: impl FnMut(&T),
+    mut plain: impl FnMut(&T),
+) {
+    let each = |f: &mut dyn FnMut(&T)| {
+        let start = Instant::now();
+        for _ in 0..64 {
+            for x in inputs {
+                f(black_box(x));
+            }
+        }
+        start.elapsed().as_nanos() as f64 / (64 * inputs.len()) as f64
+    };
+    let (mut left, mut right) = (Vec::new(), Vec::new());
+    for _ in 0..RUNS {
+        left.push(each(&mut proved));
+        right.push(each(&mut plain));
+    }
+    let (p, y) = (median(left) / 1000.0, median(right) / 1000.0);
+    println!("{what:<31}{size:>6}{p:>13.3}{y:>13.3}{:>8.2}", p / y);
+}
+
 fn main() {
     let mut rng = Rng::new(1);
     let mut route = vec![0u8; judge::ROUTE];
@@ -249,4 +331,5 @@ fn main() {
             );
         }
     }
+    forms(&mut rng);
 }
