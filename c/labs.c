@@ -39,8 +39,7 @@ int main(int argc, char **argv)
     }
     exercise_length = read_file(argv[1], exercise, sizeof exercise);
     answer_length = read_file(argv[2], answer, sizeof answer);
-    if ((number = nurimkkot_open_exercise(exercise, exercise_length)) != 0 ||
-        (number = nurimkkot_open_answer(answer, answer_length)) != 0) {
+    if ((number = nurimkkot_open_exercise(exercise, exercise_length)) != 0) {
         printf("number %d\n", number);
         return 0;
     }
@@ -49,10 +48,18 @@ int main(int argc, char **argv)
         printf("number 15\n");
         return 0;
     }
-    while ((said = nurimkkot_next_place(answer, answer_length, &at, place)) == NURIMKKOT_GIVEN && at <= n)
+    number = nurimkkot_open_answer(answer, answer_length);
+    /* The count stands before the length in the judge's order. */
+    if ((number == 0 || number == 25) && answer[9] + 256 * answer[10] != n)
+        number = 24;
+    if (number != 0) {
+        printf("number %d\n", number);
+        return 0;
+    }
+    while ((said = nurimkkot_next_place(answer, answer_length, &at, place)) == NURIMKKOT_GIVEN)
         lab_of[at - 1] = (uint16_t)(32 * place[1] + place[0]);
-    if (said != NURIMKKOT_END || at != n) {
-        printf("number %d\n", said == NURIMKKOT_BROKEN ? 26 : 24);
+    if (said == NURIMKKOT_BROKEN) {
+        printf("number 26\n");
         return 0;
     }
     for (lab = 0; lab < LABS; lab++) {
