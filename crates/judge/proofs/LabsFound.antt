@@ -2,16 +2,22 @@
 use Prim.Native.Nat.{ℕ, zero, suc, _+_, _<_}
 use native.Mathlib.Omega.{arith}
 use mathlib.Core.Path.{_≡_, refl, sym, ap, _∙_}
-use mathlib.Core.List.{List}
+use mathlib.Core.Bool.{Bool}
+use mathlib.Core.List.{List, map}
 use lib.ListN.{length, replicate}
+use lib.Dec.{eqb}
 use borrow.Author.Tests.{eq-eqb}
-use Rattle.sheet.specs.Lists.{concatMap, from, below}
-use Rattle.sheet.specs.Exercise.{netCount, cellCount}
+use Rattle.sheet.specs.Lists.{concatMap, filterb, from, below}
+use Rattle.sheet.specs.Exercise.{cellCount}
+use Rattle.sheet.specs.Record.{knownAt}
+use Rattle.sheet.specs.declared.Record.{Record}
+use Rattle.sheet.proofs.Laws.{by-test}
 use Rattle.route.specs.Table.{Table}
 use Rattle.lab.specs.Rules.{labChecks, labNumber, routeOf, labResult}
 use Rattle.lab.specs.Counts.{AllFit}
 use Rattle.lab.specs.declared.LabResult.{LabResult}
 use Rattle.netlist.specs.Cells.{cell}
+use Rattle.placing.specs.Places.{labAt}
 use Rattle.labs.specs.Members.{Links, members, linkBelow}
 use Rattle.labs.specs.Results.{resultAt, putRows}
 use Rattle.labs.proofs.Linked.{walk-members}
@@ -29,17 +35,30 @@ pub labs-finds : (t : Table) (e a : List ℕ) → firstBroken (labGroup t e a) �
 unfolding labGroup numberedAs labNumber
 labs-finds t e a = labs-find (λ l. labChecks t (labCells e a l)) 1024 (λ l. lab-numbered t (labCells e a l))
 
+-- two ways of reading the cells that agree give the same cells
+map-same : (f g : ℕ → Record) (p : ℕ → Bool) (i k : ℕ) → ((j : ℕ) → j < i + k → f j ≡ g j) → map f (filterb p (from i k)) ≡ map g (filterb p (from i k))
+map-same f g p i zero h = refl
+map-same f g p i (suc k) h =
+    let rest = map-same f g p (suc i) k (λ j b. h j (omega arith)) in
+    by-test (p i) (λ t. rw (t, h i (omega arith), rest)) (λ t. rw (t, rest))
+
 -- the lists by LAB of the answer
 abbrev pub linked : List ℕ → ℕ → Links
 linked a n = linkBelow a (record { first = replicate 1024 NONE; next = replicate 512 NONE }) n
 
 module _ (t : Table) (e a : List ℕ) (s : Sound e) (fits : (l : ℕ) → AllFit (labCells e a l)) where
   abbrev resultOfLab : ℕ → LabResult
-  resultOfLab l = resultAt t (netCount e) e (linked a (cellCount e) .first) (linked a (cellCount e) .next) l
+  resultOfLab l = resultAt t (knownAt e) (linked a (cellCount e) .first) (linked a (cellCount e) .next) l
+
+  members-known : (l : ℕ) → map (knownAt e) (members a (cellCount e) l) ≡ labCells e a l
+  unfolding labCells members
+  members-known l = map-same (knownAt e) (cell e) (λ i. eqb (labAt a i) l) 0 (cellCount e) (λ i b. s .known i (omega arith))
 
   pub result-at : (l : ℕ) → l < 1024 → resultOfLab l ≡ labResult t (labCells e a l)
-  unfolding resultAt labCells cell
-  result-at l h = rw (walk-members a (cellCount e) l (s .cells) h) (result-is-lab t (netCount e) e (members a (cellCount e) l) (fits l))
+  unfolding resultAt
+  result-at l h =
+      rw (walk-members a (cellCount e) l (s .cells) h)
+      (result-is-lab t (knownAt e) (members a (cellCount e) l) (rw (members-known l) (fits l)) ∙ ap (labResult t) (members-known l))
 
   -- 60 to 65
   pub labs-are : numberedLab (λ l. resultOfLab l .number) ≡ firstBroken (labGroup t e a)
@@ -61,7 +80,7 @@ module _ (t : Table) (e a : List ℕ) (s : Sound e) (fits : (l : ℕ) → AllFit
 
     eight : (l : ℕ) → length (resultOfLab l .bytes) ≡ 8
     unfolding resultAt
-    eight l = bytes-eight t (netCount e) e _
+    eight l = bytes-eight t (knownAt e) _
 
     pub routes-are : (rows : List ℕ) → length rows ≡ 8192 → putRows (λ l. resultOfLab l .bytes) rows 1024 ≡ concatMap (λ l. routeOf t (labCells e a l)) (below 1024)
     routes-are rows z =

@@ -4,7 +4,7 @@ use native.Mathlib.Omega.{arith}
 use mathlib.Core.Path.{_≡_, refl, sym, _∙_}
 use mathlib.Core.Bool.{false, cond, not, _&&_, and-assoc}
 use mathlib.Core.List.{List, [], _∷_}
-use lib.ListN.{length}
+use lib.ListN.{length, replicate}
 use lib.Dec.{eqb, ltb}
 use borrow.Author.Tests.{ltb-false, eqb-true, eq-eqb}
 use Rattle.sheet.specs.Lists.{firstFrom}
@@ -16,7 +16,10 @@ use Rattle.sheet.specs.declared.Record.{Record}
 use Rattle.sheet.specs.declared.Record.the-variants.{Combinational, Register, Malformed}
 use Rattle.sheet.proofs.Laws.{by-test, or-parts}
 use Rattle.netlist.specs.Cells.{cell, malformed, doubleDriver, cellNumber}
-use Rattle.netlist.specs.Tables.{NONE, cellFor, numberAt}
+use Rattle.sheet.specs.Record.{knownAt}
+use Rattle.sheet.proofs.Known.{known-is}
+use Rattle.netlist.specs.Tables.{NONE, cellFor, numberAt, readsBelow, readersBelow, driversBelow}
+use Rattle.netlist.proofs.Same.{reads-same, readers-same, drivers-same}
 use Rattle.netlist.proofs.Carry.{fed-by, number-is, reads, readers, drivers}
 use Rattle.placing.specs.Places.{follows, detachedBy, detachedAt}
 use Rattle.judge.specs.declared.Finding.{Finding}
@@ -26,10 +29,16 @@ use Rattle.sheet.proofs.First.{first-below, none-below}
 use Rattle.judge.proofs.Numbering.{numbered-same}
 use Rattle.judge.proofs.Groups.{then, exercise-finds, cells-finds, places-finds}
 
--- what 13 and 16 say, as far as the tables need it
+-- where 15 holds, the records are known
+pub known-cells : (e : List ℕ) → ltb (firstFrom (malformed e) 0 (cellCount e)) (cellCount e) ≡ false → (i : ℕ) → i < cellCount e → knownAt e i ≡ cell e i
+unfolding malformed cell
+known-cells e h i b = known-is (netCount e) e i (none-below (malformed e) (cellCount e) h i b)
+
+-- what 13, 15 and 16 say, as far as the tables need it
 pub record Sound (e : List ℕ) : Type 0 where
   pub nets : netCount e ≤ 1024
   pub cells : cellCount e ≤ 512
+  pub known : (i : ℕ) → i < cellCount e → knownAt e i ≡ cell e i
   pub single : (i : ℕ) → i < cellCount e → doubleDriver e i ≡ false
 
 module _ (e a : List ℕ) (s : Sound e) where
@@ -43,26 +52,29 @@ module _ (e a : List ℕ) (s : Sound e) where
   detached-cell i Malformed = refl
 
   -- 51
-  pub detached-is : (i : ℕ) → detachedAt (drivers e 1024 (cellCount e)) a (netCount e) e i ≡ carryNotNext e a i
-  unfolding detachedAt carryNotNext cell
-  detached-is i = detached-cell i (cell e i)
+  pub detached-is : (i : ℕ) → i < cellCount e → detachedAt (drivers e 1024 (cellCount e)) a (knownAt e) i ≡ carryNotNext e a i
+  unfolding detachedAt carryNotNext
+  detached-is i b = rw (s .known i b) (detached-cell i (cell e i))
 
   -- 30 to 44
   pub numbers-are : (i : ℕ) → i < cellCount e
-      → numberAt (reads e 1024 (cellCount e)) (readers e 1024 (cellCount e)) (drivers e 1024 (cellCount e)) (netCount e) e i ≡ cellNumber e i
-  unfolding cell
-  numbers-are i h = number-is e (s .nets) (s .cells) (s .single) i h
+      → numberAt (reads e 1024 (cellCount e)) (readers e 1024 (cellCount e)) (drivers e 1024 (cellCount e)) (knownAt e) i ≡ cellNumber e i
+  numbers-are i h = rw (s .known i h) (number-is e (s .nets) (s .cells) (s .single) i h)
 
-  pub cells-are : numbered (numberAt (reads e 1024 (cellCount e)) (readers e 1024 (cellCount e)) (drivers e 1024 (cellCount e)) (netCount e) e) (cellCount e)
-      ≡ firstBroken (cellGroup e)
-  cells-are = numbered-same _ _ (cellNumber e) (cellCount e) numbers-are ∙ sym (cells-finds e)
+  abbrev tableOf : ((ℕ → Record) → List ℕ → ℕ → List ℕ) → ℕ → List ℕ
+  tableOf below start = below (knownAt e) (replicate 1024 start) (cellCount e)
+
+  pub cells-are : numbered (numberAt (tableOf readsBelow 0) (tableOf readersBelow NONE) (tableOf driversBelow NONE) (knownAt e)) (cellCount e) ≡ firstBroken (cellGroup e)
+  cells-are =
+      rw (reads-same (knownAt e) (cell e) (replicate 1024 0) (cellCount e) (s .known), readers-same (knownAt e) (cell e) (replicate 1024 NONE) (cellCount e) (s .known), drivers-same (knownAt e) (cell e) (replicate 1024 NONE) (cellCount e) (s .known))
+      (numbered-same _ _ (cellNumber e) (cellCount e) numbers-are ∙ sym (cells-finds e))
 
   -- 50 and 51
-  pub places-are : placedBy (drivers e 1024 (cellCount e)) (netCount e) (cellCount e) e a ≡ firstBroken (placeGroup e a)
+  pub places-are : placedBy (tableOf driversBelow NONE) (knownAt e) (cellCount e) e a ≡ firstBroken (placeGroup e a)
   unfolding placedBy
   places-are =
-      let same = first-below (detachedAt (drivers e 1024 (cellCount e)) a (netCount e) e) (carryNotNext e a) (cellCount e) (λ i b. detached-is i) in
-      rw same (sym (places-finds e a))
+      let same = first-below (detachedAt (drivers e 1024 (cellCount e)) a (knownAt e)) (carryNotNext e a) (cellCount e) detached-is in
+      rw (drivers-same (knownAt e) (cell e) (replicate 1024 NONE) (cellCount e) (s .known), same) (sym (places-finds e a))
 
 -- ---- what passing the stages says
 pub then-first : (f g : Finding) → then f g .number ≡ 0 → f .number ≡ 0
@@ -107,4 +119,4 @@ sound-of e h =
     let n16 = firstFrom (doubleDriver e) 0 (cellCount e) in
     let m = run-passed 15 n15 (cellCount e) (atCell 16 n16 (cellCount e)) (λ z. omega arith) r in
     let d = run-passed 16 n16 (cellCount e) legal (λ z. omega arith) (m .1) in
-    record { nets = l .0; cells = l .1; single = none-below (doubleDriver e) (cellCount e) (d .0) }
+    record { nets = l .0; cells = l .1; known = known-cells e (m .0); single = none-below (doubleDriver e) (cellCount e) (d .0) }

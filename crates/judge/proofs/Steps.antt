@@ -22,7 +22,7 @@ use Rattle.placing.specs.Places.{labAt, outOfRangeAt, placeTaken, detachedAt}
 use Rattle.labs.specs.Members.{members}
 use Rattle.labs.specs.Results.{resultAt, brokenLab, putRows}
 use Rattle.labs.proofs.Rows.{rows-long}
-use Rattle.sheet.specs.Record.{recordAt}
+use Rattle.sheet.specs.Record.{knownAt}
 use Rattle.sheet.specs.declared.Record.{Record}
 use Rattle.judge.specs.declared.Finding.{Finding}
 use Rattle.judge.specs.declared.Part.{Part}
@@ -35,8 +35,9 @@ use Rattle.judge.proofs.Groups.{then, exercise-finds, answer-finds, cel
 use Rattle.judge.proofs.FitCells.{lab-fit}
 use Rattle.judge.proofs.LabsFound.{linked, labs-are, routes-are}
 use Rattle.sheet.proofs.First.{first-most, some-below}
+use Rattle.netlist.proofs.Same.{double-same}
 use Rattle.judge.proofs.Numbering.{numbered-none}
-use Rattle.judge.proofs.Sound.{Sound, sound-of, limits, then-first, then-second, cells-are, places-are}
+use Rattle.judge.proofs.Sound.{Sound, known-cells, sound-of, limits, then-first, then-second, cells-are, places-are}
 
 -- ---- a finding, and the next where it is nothing
 then-stays : (f g : Finding) {r : Finding} → (f .number ≡ 0 → ⊥) → r ≡ f → r ≡ then f g
@@ -61,10 +62,12 @@ module _ (e : List ℕ) (number : ℕ) (head : number ≡ exerciseNumber e) wher
         rw exercise-finds (then-goes (finding (exerciseNumber e) NONE NONE) _ (sym head ∙ none)
         (rw (← first, ← c) (rw (lt-ltb i cells h) (a ∙ rw (lt-ltb i cells h)))))
 
-    pub exercise-driven : (d : ℕ) {r : Finding} → cells ≤ i → d ≡ doubleFrom nets e (replicate 1024 0) 0 cells → r ≡ cond (ltb d cells) (finding 16 d NONE) legal → r ≡ firstBroken (exerciseGroup e)
+    pub exercise-driven : (d : ℕ) {r : Finding} → cells ≤ i → d ≡ doubleFrom (knownAt e) (replicate 1024 0) 0 cells → r ≡ cond (ltb d cells) (finding 16 d NONE) legal → r ≡ firstBroken (exerciseGroup e)
     exercise-driven d h b a =
         let l = limits e (sym head ∙ none) in
-        let s : d ≡ firstFrom (doubleDriver e) 0 cells = b ∙ rw n (double-is e cells (l .0)) in
+        let known = known-cells e (ap (λ (k : ℕ). ltb k (cellCount e)) (sym first) ∙ le-ltb i (cellCount e) (omega arith)) in
+        let s : d ≡ firstFrom (doubleDriver e) 0 cells =
+        b ∙ double-same (knownAt e) (cell e) (replicate 1024 0) 0 cells (λ j _ q. known j (omega arith)) ∙ double-is e cells (l .0) in
         rw exercise-finds (then-goes (finding (exerciseNumber e) NONE NONE) _ (sym head ∙ none)
         (rw (← first, ← c) (rw (le-ltb i cells h, ← s) a)))
 
@@ -111,22 +114,22 @@ module _ (g : ℕ → ℕ) where
   lab-ends l at h a = rw (← at) (rw (le-ltb l 1024 h) a)
 
 -- ---- 30 to 44, from the tables
-module _ (reads readers drivers e : List ℕ) (nets cells i : ℕ) (at : i ≡ firstFrom (brokenAt reads readers drivers nets e) 0 cells) where
-  pub cell-broken : (c : Record) (n : ℕ) {r : Finding} → i < cells → c ≡ recordAt nets e i → n ≡ numberBy reads readers drivers i c
-      → r ≡ cond (ltb i cells) (finding n i NONE) legal → r ≡ numbered (numberAt reads readers drivers nets e) cells
+module _ (reads readers drivers : List ℕ) (get : ℕ → Record) (cells i : ℕ) (at : i ≡ firstFrom (brokenAt reads readers drivers get) 0 cells) where
+  pub cell-broken : (c : Record) (n : ℕ) {r : Finding} → i < cells → c ≡ get i → n ≡ numberBy reads readers drivers i c
+      → r ≡ cond (ltb i cells) (finding n i NONE) legal → r ≡ numbered (numberAt reads readers drivers get) cells
   unfolding brokenAt
-  cell-broken c n h k q a = cell-stops (numberAt reads readers drivers nets e) cells i n at h (q ∙ ap (numberBy reads readers drivers i) k) a
+  cell-broken c n h k q a = cell-stops (numberAt reads readers drivers get) cells i n at h (q ∙ ap (numberBy reads readers drivers i) k) a
 
-  pub cells-kept : {r : Finding} → cells ≤ i → r ≡ legal → r ≡ numbered (numberAt reads readers drivers nets e) cells
+  pub cells-kept : {r : Finding} → cells ≤ i → r ≡ legal → r ≡ numbered (numberAt reads readers drivers get) cells
   unfolding brokenAt
-  cells-kept h a = cell-ends (numberAt reads readers drivers nets e) cells i at h a
+  cells-kept h a = cell-ends (numberAt reads readers drivers get) cells i at h a
 
 pub ruleset cell-steps = (cell-broken, cells-kept)
 
 -- ---- 60 to 65, from the lists
-module _ (t : Table) (nets : ℕ) (e first next : List ℕ) (l : ℕ) (at : l ≡ firstFrom (brokenLab t nets e first next) 0 1024) where
+module _ (t : Table) (get : ℕ → Record) (first next : List ℕ) (l : ℕ) (at : l ≡ firstFrom (brokenLab t get first next) 0 1024) where
   abbrev numberOf : ℕ → ℕ
-  numberOf k = resultAt t nets e first next k .number
+  numberOf k = resultAt t get first next k .number
 
   lab-broken : {r : Finding} → l < 1024 → r ≡ finding (numberOf l) NONE l → r ≡ numberedLab numberOf
   unfolding brokenLab
@@ -135,7 +138,7 @@ module _ (t : Table) (nets : ℕ) (e first next : List ℕ) (l : ℕ) (at : l �
   lab-refused : l < 1024 → numberOf l ≡ 0 → ⊥
   unfolding brokenLab
   lab-refused h =
-      let broken = brokenLab t nets e first next in
+      let broken = brokenLab t get first next in
       let found : broken l ≡ true = ap broken at ∙ some-below broken 1024 (ap (λ (k : ℕ). ltb k 1024) (sym at) ∙ lt-ltb l 1024 h) in
       eqb-false (numberOf l) 0 (not-true _ found)
 
@@ -144,34 +147,34 @@ module _ (t : Table) (nets : ℕ) (e first next : List ℕ) (l : ℕ) (at : l �
   labs-kept h a = lab-ends numberOf l at h a
 
   labs-all : 1024 ≤ l → l ≡ 1024
-  labs-all h = omega (arith, first-most (brokenLab t nets e first next) 0 1024)
+  labs-all h = omega (arith, first-most (brokenLab t get first next) 0 1024)
 
 -- ---- 50 and 51
-module _ (drivers e a : List ℕ) (nets cells i : ℕ) (at : i ≡ firstFrom (placeTaken e a) 0 cells) where
-  pub place-shared : {r : Finding} → i < cells → r ≡ cond (ltb i cells) (finding 50 i NONE) legal → r ≡ placedBy drivers nets cells e a
+module _ (drivers e a : List ℕ) (get : ℕ → Record) (cells i : ℕ) (at : i ≡ firstFrom (placeTaken e a) 0 cells) where
+  pub place-shared : {r : Finding} → i < cells → r ≡ cond (ltb i cells) (finding 50 i NONE) legal → r ≡ placedBy drivers get cells e a
   unfolding placedBy
   place-shared h q = rw (← at) (rw (lt-ltb i cells h) (q ∙ rw (lt-ltb i cells h)))
 
-  pub place-detached : (d : ℕ) {r : Finding} → cells ≤ i → d ≡ firstFrom (detachedAt drivers a nets e) 0 cells → r ≡ cond (ltb d cells) (finding 51 d NONE) legal → r ≡ placedBy drivers nets cells e a
+  pub place-detached : (d : ℕ) {r : Finding} → cells ≤ i → d ≡ firstFrom (detachedAt drivers a get) 0 cells → r ≡ cond (ltb d cells) (finding 51 d NONE) legal → r ≡ placedBy drivers get cells e a
   unfolding placedBy
   place-detached d h s q = rw (← at) (rw (le-ltb i cells h, ← s) q)
 
 pub ruleset place-steps = (place-shared, place-detached)
 
 -- ---- 30 to 51, of an exercise that passes 10 to 16
-module _ (e a : List ℕ) (passed : firstBroken (exerciseGroup e) .number ≡ 0) (nets cells : ℕ) (n : nets ≡ netCount e) (c : cells ≡ cellCount e)
-    (rs rd ds : List ℕ) (r0 : rs ≡ readsBelow nets e (replicate 1024 0) cells) (r1 : rd ≡ readersBelow nets e (replicate 1024 NONE) cells)
-    (r2 : ds ≡ driversBelow nets e (replicate 1024 NONE) cells) (f : Finding) (found : f ≡ numbered (numberAt rs rd ds nets e) cells) where
+module _ (e a : List ℕ) (passed : firstBroken (exerciseGroup e) .number ≡ 0) (cells : ℕ) (c : cells ≡ cellCount e)
+    (rs rd ds : List ℕ) (r0 : rs ≡ readsBelow (knownAt e) (replicate 1024 0) cells) (r1 : rd ≡ readersBelow (knownAt e) (replicate 1024 NONE) cells)
+    (r2 : ds ≡ driversBelow (knownAt e) (replicate 1024 NONE) cells) (f : Finding) (found : f ≡ numbered (numberAt rs rd ds (knownAt e)) cells) where
   cell-group : f ≡ firstBroken (cellGroup e)
-  cell-group = found ∙ rw (r0, r1, r2, n, c) (cells-are e a (sound-of e passed))
+  cell-group = found ∙ rw (r0, r1, r2, c) (cells-are e a (sound-of e passed))
 
   pub cells-stop : (f .number ≡ 0 → ⊥) → f ≡ firstBroken (cellGroup e ++ placeGroup e a)
   cells-stop h = rw cells-places-find (then-stays (firstBroken (cellGroup e)) (firstBroken (placeGroup e a)) (λ z. h (ap (λ (x : Finding). x .number) cell-group ∙ z)) cell-group)
 
-  pub cells-go : {r : Finding} → f .number ≡ 0 → r ≡ placedBy ds nets cells e a → r ≡ firstBroken (cellGroup e ++ placeGroup e a)
+  pub cells-go : {r : Finding} → f .number ≡ 0 → r ≡ placedBy ds (knownAt e) cells e a → r ≡ firstBroken (cellGroup e ++ placeGroup e a)
   cells-go h q =
       rw cells-places-find (then-goes (firstBroken (cellGroup e)) (firstBroken (placeGroup e a)) (ap (λ (x : Finding). x .number) (sym cell-group) ∙ h)
-      (q ∙ rw (r2, n, c) (places-are e a (sound-of e passed))))
+      (q ∙ rw (r2, c) (places-are e a (sound-of e passed))))
 
 pub ruleset cells-steps = (cells-stop, cells-go)
 
@@ -274,26 +277,26 @@ module _ (t : Table) (e a : List ℕ) (room : ℕ) (passed : firstBroken (checks
   unfolding cellNumber
   fits = lab-fit e a (sound .nets) cell-zero
 
-  module _ (nets cells : ℕ) (first next : List ℕ) (n : nets ≡ netCount e) (c : cells ≡ cellCount e)
+  module _ (cells : ℕ) (first next : List ℕ) (c : cells ≡ cellCount e)
       (x : first ≡ linked a cells .first) (y : next ≡ linked a cells .next)
-      (l : ℕ) (at : l ≡ firstFrom (brokenLab t nets e first next) 0 1024) (f : Finding) where
-    lab-group : f ≡ numberedLab (λ k. resultAt t nets e first next k .number) → f ≡ firstBroken (labGroup t e a)
-    lab-group found = found ∙ rw (x, y, n, c) (labs-are t e a sound fits)
+      (l : ℕ) (at : l ≡ firstFrom (brokenLab t (knownAt e) first next) 0 1024) (f : Finding) where
+    lab-group : f ≡ numberedLab (λ k. resultAt t (knownAt e) first next k .number) → f ≡ firstBroken (labGroup t e a)
+    lab-group found = found ∙ rw (x, y, c) (labs-are t e a sound fits)
 
-    pub labs-stop : (before : List ℕ) → l < 1024 → f ≡ finding (resultAt t nets e first next l .number) NONE l
+    pub labs-stop : (before : List ℕ) → l < 1024 → f ≡ finding (resultAt t (knownAt e) first next l .number) NONE l
         → (f ≡ firstBroken (labGroup t e a)) × (before ≡ cond (eqb (f .number) 0) (concatMap (λ k. routeOf t (labCells e a k)) (below 1024)) before)
     labs-stop before h q =
-        let some : f .number ≡ 0 → ⊥ = λ z. lab-refused t nets e first next l at h (ap (λ (z : Finding). z .number) (sym q) ∙ z) in
-        (lab-group (lab-broken t nets e first next l at h q), rw (ne-eqb (f .number) 0 some))
+        let some : f .number ≡ 0 → ⊥ = λ z. lab-refused t (knownAt e) first next l at h (ap (λ (z : Finding). z .number) (sym q) ∙ z) in
+        (lab-group (lab-broken t (knownAt e) first next l at h q), rw (ne-eqb (f .number) 0 some))
 
     pub labs-go : (before after rows : List ℕ) → 1024 ≤ l → f ≡ legal
-        → rows ≡ putRows (λ k. resultAt t nets e first next k .bytes) blank l → after ≡ rows
+        → rows ≡ putRows (λ k. resultAt t (knownAt e) first next k .bytes) blank l → after ≡ rows
         → (f ≡ firstBroken (labGroup t e a)) × (after ≡ cond (eqb (f .number) 0) (concatMap (λ k. routeOf t (labCells e a k)) (below 1024)) before)
     labs-go before after rows h q p o =
         let none : f .number ≡ 0 = ap (λ (z : Finding). z .number) q in
-        let group = lab-group (labs-kept t nets e first next l at h q) in
+        let group = lab-group (labs-kept t (knownAt e) first next l at h q) in
         let held : firstBroken (labGroup t e a) .number ≡ 0 = ap (λ (z : Finding). z .number) (sym group) ∙ none in
-        (group, rw (eq-eqb (f .number) 0 none) (o ∙ p ∙ rw (labs-all t nets e first next l at h, x, y, n, c) (routes-are t e a sound fits held blank blank-size)))
+        (group, rw (eq-eqb (f .number) 0 none) (o ∙ p ∙ rw (labs-all t (knownAt e) first next l at h, x, y, c) (routes-are t e a sound fits held blank blank-size)))
 
 -- ---- the whole verdict
 module _ (t : Table) (e a before : List ℕ) (f : Finding) (x : f ≡ firstBroken (checksTo51 e a (length before))) where

@@ -1,9 +1,10 @@
 -- What the judge's stages answer from the tables that they are given. Assumes nothing.
 use Prim.Native.Nat.{ℕ}
-use mathlib.Core.Bool.{Bool, cond, not}
+use mathlib.Core.Bool.{cond, not}
 use mathlib.Core.List.{List, [], _∷_}
 use lib.Dec.{eqb, ltb}
 use Rattle.sheet.specs.Lists.{firstFrom}
+use Rattle.sheet.specs.declared.Record.{Record}
 use Rattle.placing.specs.Places.{placeTaken, detachedAt}
 use Rattle.netlist.specs.Tables.{NONE}
 use Rattle.judge.specs.declared.Finding.{Finding}
@@ -29,10 +30,10 @@ abbrev pub atCell : ℕ → ℕ → ℕ → Finding
 atCell number i n = cond (ltb i n) (finding number i NONE) legal
 
 -- 50, then 51 from the table of drivers
-unfoldable pub placedBy : List ℕ → ℕ → ℕ → List ℕ → List ℕ → Finding
-placedBy drivers nets n e a =
+unfoldable pub placedBy : List ℕ → (ℕ → Record) → ℕ → List ℕ → List ℕ → Finding
+placedBy drivers cell n e a =
     cond (ltb (firstFrom (placeTaken e a) 0 n) n) (finding 50 (firstFrom (placeTaken e a) 0 n) NONE)
-    (atCell 51 (firstFrom (detachedAt drivers a nets e) 0 n) n)
+    (atCell 51 (firstFrom (detachedAt drivers a cell) 0 n) n)
 
 -- the four numbers of a verdict
 abbrev pub numbersOf : Verdict → List ℕ

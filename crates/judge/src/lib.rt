@@ -8,6 +8,7 @@ ghost use lib.ListN.{length};
 ghost use lib.Dec.{eqb, ltb};
 ghost use Rattle.sheet.specs.Lists.{concatMap, below};
 ghost use Rattle.sheet.specs.Exercise.{recordStart};
+ghost use Rattle.sheet.specs.Record.{knownAt};
 ghost use Rattle.sheet.specs.Answer.{placeStart};
 ghost use Rattle.route.specs.Table.{houseBoard};
 ghost use Rattle.lab.specs.Rules.{routeOf};
@@ -81,11 +82,7 @@ fn exercise_finding(exercise: &[u8]) -> Finding
     if malformed < cells {
         return at_cell(15, malformed, cells);
     }
-    at_cell(
-        16,
-        netlist::first_double_driver(exercise, nets, cells),
-        cells,
-    )
+    at_cell(16, netlist::first_double_driver(exercise, cells), cells)
 }
 
 // 20 to 26.
@@ -109,17 +106,16 @@ fn answer_finding(exercise: &[u8], answer: &[u8]) -> Finding
 // 30 to 44, from the tables by net.
 fn cell_finding(
     exercise: &[u8],
-    nets: u16,
     cells: u16,
     reads: &[u8],
     readers: &[u16],
     drivers: &[u16],
 ) -> Finding
-    ensures { λ r. ⌜ r ≡ numbered (numberAt (now (reads .entry)) (now (readers .entry)) (now (drivers .entry)) nets (now (exercise .entry))) cells ⌝ }
+    ensures { λ r. ⌜ r ≡ numbered (numberAt (now (reads .entry)) (now (readers .entry)) (now (drivers .entry)) (knownAt (now (exercise .entry)))) cells ⌝ }
 {
-    let i = netlist::first_broken_cell(exercise, nets, cells, reads, readers, drivers);
+    let i = netlist::first_broken_cell(exercise, cells, reads, readers, drivers);
     if i < cells {
-        let cell = sheet::record_at(exercise, CellNumber(i), nets);
+        let cell = sheet::known_record_at(exercise, CellNumber(i));
         return at_cell(
             netlist::cell_number(cell, i, reads, readers, drivers),
             i,
@@ -130,8 +126,8 @@ fn cell_finding(
 }
 
 // 50 and 51, the latter from the table of drivers.
-fn place_finding(exercise: &[u8], answer: &[u8], nets: u16, cells: u16, drivers: &[u16]) -> Finding
-    ensures { λ r. ⌜ r ≡ placedBy (now (drivers .entry)) nets cells (now (exercise .entry)) (now (answer .entry)) ⌝ }
+fn place_finding(exercise: &[u8], answer: &[u8], cells: u16, drivers: &[u16]) -> Finding
+    ensures { λ r. ⌜ r ≡ placedBy (now (drivers .entry)) (knownAt (now (exercise .entry))) cells (now (exercise .entry)) (now (answer .entry)) ⌝ }
 {
     let shared = placing::first_shared(exercise, answer, cells);
     if shared < cells {
@@ -139,7 +135,7 @@ fn place_finding(exercise: &[u8], answer: &[u8], nets: u16, cells: u16, drivers:
     }
     at_cell(
         51,
-        placing::first_detached(exercise, answer, nets, cells, drivers),
+        placing::first_detached(exercise, answer, cells, drivers),
         cells,
     )
 }
@@ -149,24 +145,16 @@ fn cells_finding(exercise: &[u8], answer: &[u8]) -> Finding
     requires { ⌜ firstBroken (exerciseGroup (now exercise)) .number ≡ 0 ⌝ }
     ensures { λ r. ⌜ r ≡ firstBroken (cellGroup (now (exercise .entry)) ++ placeGroup (now (exercise .entry)) (now (answer .entry))) ⌝ }
 {
-    let nets = sheet::net_count(exercise);
     let cells = sheet::cell_count(exercise);
     let mut reads = [0u8; 1024];
     let mut readers = [NONE; 1024];
     let mut drivers = [NONE; 1024];
-    netlist::fill_tables(
-        exercise,
-        nets,
-        cells,
-        &mut reads,
-        &mut readers,
-        &mut drivers,
-    );
-    let f = cell_finding(exercise, nets, cells, &reads, &readers, &drivers);
+    netlist::fill_tables(exercise, cells, &mut reads, &mut readers, &mut drivers);
+    let f = cell_finding(exercise, cells, &reads, &readers, &drivers);
     if f.number != 0 {
         return f;
     }
-    place_finding(exercise, answer, nets, cells, &drivers)
+    place_finding(exercise, answer, cells, &drivers)
 }
 
 // 1 to 51.
@@ -191,14 +179,13 @@ fn finding_to_51(exercise: &[u8], answer: &[u8], room: usize) -> Finding
 fn lab_finding(
     table: [[bool; 5]; 6],
     exercise: &[u8],
-    nets: u16,
     first: &[u16],
     next: &[u16],
     lab: u16,
 ) -> Finding
-    ensures { λ r. ⌜ r ≡ finding (resultAt table nets (now (exercise .entry)) (now (first .entry)) (now (next .entry)) lab .number) NONE lab ⌝ }
+    ensures { λ r. ⌜ r ≡ finding (resultAt table (knownAt (now (exercise .entry))) (now (first .entry)) (now (next .entry)) lab .number) NONE lab ⌝ }
 {
-    let result = labs::result_at(table, exercise, nets, first, next, lab as usize);
+    let result = labs::result_at(table, exercise, first, next, lab as usize);
     Finding {
         number: result.number,
         cell: NONE,
@@ -224,15 +211,14 @@ fn judge_labs(table: [[bool; 5]; 6], exercise: &[u8], answer: &[u8], route: &mut
     ensures found { λ r. ⌜ r ≡ firstBroken (labGroup table (now (exercise .entry)) (now (answer .entry))) ⌝ }
     ensures written { λ r. ⌜ now (route .exit) ≡ cond (eqb (r .number) 0) (concatMap (λ l. routeOf table (labCells (now (exercise .entry)) (now (answer .entry)) l)) (below 1024)) (now (route .entry)) ⌝ }
 {
-    let nets = sheet::net_count(exercise);
     let cells = sheet::cell_count(exercise);
     let mut first = [NONE; 1024];
     let mut next = [NONE; 512];
     labs::link_cells(answer, cells, &mut first, &mut next);
     let mut rows = [255u8; 8192];
-    let lab = labs::route_labs(table, exercise, nets, &first, &next, &mut rows);
+    let lab = labs::route_labs(table, exercise, &first, &next, &mut rows);
     if lab < labs::LABS {
-        return lab_finding(table, exercise, nets, &first, &next, lab);
+        return lab_finding(table, exercise, &first, &next, lab);
     }
     copy(&rows, route);
     plain(0)

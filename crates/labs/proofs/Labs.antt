@@ -2,7 +2,7 @@
 use Prim.Native.Nat.{ℕ}
 use mathlib.Core.Path.{_≡_}
 use mathlib.Core.List.{List, map}
-use Rattle.sheet.specs.Record.{recordAt}
+use Rattle.sheet.specs.declared.Record.{Record}
 use Rattle.route.specs.Table.{Table}
 use Rattle.lab.specs.Rules.{labResult}
 use Rattle.lab.specs.Counts.{AllFit}
@@ -10,8 +10,8 @@ use Rattle.lab.proofs.Folded.{counts-are, nets-are}
 use Rattle.lab.proofs.Result.{result-is}
 use Rattle.labs.specs.Results.{resultOf}
 
-pub result-is-lab : (t : Table) (nets : ℕ) (e is : List ℕ) → AllFit (map (recordAt nets e) is) → resultOf t nets e is ≡ labResult t (map (recordAt nets e) is)
+pub result-is-lab : (t : Table) (get : ℕ → Record) (is : List ℕ) → AllFit (map get is) → resultOf t get is ≡ labResult t (map get is)
 unfolding resultOf
-result-is-lab t nets e is fit =
-    let cs = map (recordAt nets e) is in
+result-is-lab t get is fit =
+    let cs = map get is in
     rw (counts-are cs, nets-are cs fit) (result-is t cs fit)

@@ -10,14 +10,15 @@ use Rattle.sheet.proofs.Scan.{Scanned, scan-starts, scan-goes-at, scan-stops-at
 use Rattle.route.specs.Table.{Table}
 use Rattle.lab.specs.declared.LabResult.{LabResult}
 use Rattle.labs.specs.Results.{resultAt, brokenLab, putRow, putRows}
+use Rattle.sheet.specs.declared.Record.{Record}
 
-module _ (t : Table) (nets : ℕ) (e first next : List ℕ) where
+module _ (t : Table) (get : ℕ → Record) (first next : List ℕ) where
   abbrev bytesOf : ℕ → List ℕ
-  bytesOf l = resultAt t nets e first next l .bytes
+  bytesOf l = resultAt t get first next l .bytes
 
   -- the rows were rows₀
   pub record Passed (rows₀ rows : List ℕ) (lab : ℕ) : Type 0 where
-    pub kept : Scanned (brokenLab t nets e first next) 1024 lab
+    pub kept : Scanned (brokenLab t get first next) 1024 lab
     pub put : rows ≡ putRows bytesOf rows₀ lab
 
   pub pass-starts : (rows : List ℕ) → Passed rows rows 0
@@ -25,7 +26,7 @@ module _ (t : Table) (nets : ℕ) (e first next : List ℕ) where
   pass-starts rows = record { kept = scan-starts _ 1024; put = refl }
 
   module _ (rows₀ rows : List ℕ) (lab : ℕ) (s : Passed rows₀ rows lab) where
-    pub pass-goes : (r : LabResult) (rows′ : List ℕ) → lab < 1024 → r ≡ resultAt t nets e first next lab → r .number ≡ 0
+    pub pass-goes : (r : LabResult) (rows′ : List ℕ) → lab < 1024 → r ≡ resultAt t get first next lab → r .number ≡ 0
         → rows′ ≡ putRow rows lab (r .bytes) → Passed rows₀ rows′ (lab + 1)
     unfolding putRows brokenLab
     pass-goes r rows′ h k z p =
@@ -34,11 +35,11 @@ module _ (t : Table) (nets : ℕ) (e first next : List ℕ) where
           put = p ∙ rw (s .put, k, add-one);
         }
 
-    pub pass-stops : (r : LabResult) → lab < 1024 → r ≡ resultAt t nets e first next lab → (r .number ≡ 0 → ⊥)
-        → (lab ≡ firstFrom (brokenLab t nets e first next) 0 1024) × (rows ≡ putRows bytesOf rows₀ lab)
+    pub pass-stops : (r : LabResult) → lab < 1024 → r ≡ resultAt t get first next lab → (r .number ≡ 0 → ⊥)
+        → (lab ≡ firstFrom (brokenLab t get first next) 0 1024) × (rows ≡ putRows bytesOf rows₀ lab)
     unfolding brokenLab
     pass-stops r h k n =
         (scan-stops-at _ 1024 lab (s .kept) h (ap not (ne-eqb _ 0 (λ z. n (ap (λ (x : LabResult). x .number) k ∙ z)))), s .put)
 
-    pub pass-ends : 1024 ≤ lab → (lab ≡ firstFrom (brokenLab t nets e first next) 0 1024) × (rows ≡ putRows bytesOf rows₀ lab)
+    pub pass-ends : 1024 ≤ lab → (lab ≡ firstFrom (brokenLab t get first next) 0 1024) × (rows ≡ putRows bytesOf rows₀ lab)
     pass-ends h = (scan-ends _ 1024 lab (s .kept) h, s .put)

@@ -8,7 +8,7 @@ use lib.ListN.{length, getD, set, replicate, length-set}
 use lib.Seq.{ext-getD}
 use lib.Dec.{eqb}
 use Rattle.sheet.specs.Lists.{concatMap, from, below}
-use Rattle.sheet.specs.Record.{recordAt}
+use Rattle.sheet.specs.declared.Record.{Record}
 use Rattle.sheet.proofs.Laws.{by-test}
 use Rattle.distinct.specs.Nets.{readMarks}
 use Rattle.route.specs.declared.Need.{Need}
@@ -103,7 +103,7 @@ from-eight : (t : Table) (k : Counts) (nets : ℕ) → length (resultFrom t k ne
 unfolding resultFrom
 from-eight t k nets = by-test (eqb (brokenBy k nets) 0) (λ e. rw e (routed-eight (needsHeld k) (firstWay t (needsHeld k)))) (λ e. rw e)
 
-pub bytes-eight : (t : Table) (nets : ℕ) (e is : List ℕ) → length (resultOf t nets e is .bytes) ≡ 8
+pub bytes-eight : (t : Table) (get : ℕ → Record) (is : List ℕ) → length (resultOf t get is .bytes) ≡ 8
 unfolding resultOf
-bytes-eight t nets e is =
-    from-eight t (countsAll noCounts (map (recordAt nets e) is)) (readMarks (markCells (replicate 1024 0) (map (recordAt nets e) is)))
+bytes-eight t get is =
+    from-eight t (countsAll noCounts (map get is)) (readMarks (markCells (replicate 1024 0) (map get is)))

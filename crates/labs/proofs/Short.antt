@@ -10,7 +10,6 @@ use lib.ListN.{length, getD, set, replicate}
 use lib.Dec.{eqb}
 use borrow.Author.Tests.{lt-ltb, le-ltb}
 use Rattle.sheet.specs.Lists.{filterb, concatMap}
-use Rattle.sheet.specs.Record.{recordAt}
 use Rattle.sheet.specs.Signal.{isNet, netOf}
 use Rattle.sheet.specs.declared.Record.{Record}
 use Rattle.sheet.specs.declared.Record.the-variants.{Combinational, Register, Malformed}
@@ -101,11 +100,11 @@ unfolding markCells
 few-reads t k z cs none h =
     nets-few t k (readMarks (markAll z (concatMap usesOf cs))) (omega (arith, marks-most z (concatMap usesOf cs), reads-most cs))
 
-pub short-is : (t : Table) (nets : ℕ) (e is : List ℕ) → length is ≤ 5 → countedOf t nets e is ≡ resultOf t nets e is
+pub short-is : (t : Table) (get : ℕ → Record) (is : List ℕ) → length is ≤ 5 → countedOf t get is ≡ resultOf t get is
 unfolding resultOf countedOf
-short-is t nets e is h =
-    let cs = map (recordAt nets e) is in
-    sym (few-reads t (countsAll noCounts cs) (replicate 1024 0) cs (no-marks 1024) (rw (map-length (recordAt nets e) is) h))
+short-is t get is h =
+    let cs = map get is in
+    sym (few-reads t (countsAll noCounts cs) (replicate 1024 0) cs (no-marks 1024) (rw (map-length get is) h))
 
 -- ---- the loops
 -- the first k cells of the list are passed
@@ -132,23 +131,23 @@ pub false-not-true : {G : Type 0} → false ≡ true → G
 false-not-true e = let z : _≡_ {A = ℕ} 0 1 = cc in absurd (omega arith)
 
 -- k of at most n cells are counted
-pub record Counted (nets : ℕ) (e next : List ℕ) (n start : ℕ) (counts : Counts) (at k : ℕ) : Type 0 where
+pub record Counted (get : ℕ → Record) (next : List ℕ) (n start : ℕ) (counts : Counts) (at k : ℕ) : Type 0 where
   pub within : k ≤ n
-  pub counted : countsAll noCounts (map (recordAt nets e) (walk next start n)) ≡ countsAll counts (map (recordAt nets e) (walk next at (n - k)))
+  pub counted : countsAll noCounts (map get (walk next start n)) ≡ countsAll counts (map get (walk next at (n - k)))
 
-module _ (nets : ℕ) (e next : List ℕ) (n start : ℕ) where
-  pub count-starts : (counts : Counts) → counts ≡ noCounts → Counted nets e next n start counts start 0
+module _ (get : ℕ → Record) (next : List ℕ) (n start : ℕ) where
+  pub count-starts : (counts : Counts) → counts ≡ noCounts → Counted get next n start counts start 0
   count-starts counts z = record { within = omega arith; counted = rw (sub-zero n, z) }
 
-  module _ (counts : Counts) (at k : ℕ) (s : Counted nets e next n start counts at k) where
-    pub count-goes : (cell : Record) (counts′ : Counts) (at′ : ℕ) → k < n → at < length next → cell ≡ recordAt nets e at
-        → counts′ ≡ countsWith counts cell → at′ ≡ getD next at NONE → Counted nets e next n start counts′ at′ (k + 1)
+  module _ (counts : Counts) (at k : ℕ) (s : Counted get next n start counts at k) where
+    pub count-goes : (cell : Record) (counts′ : Counts) (at′ : ℕ) → k < n → at < length next → cell ≡ get at
+        → counts′ ≡ countsWith counts cell → at′ ≡ getD next at NONE → Counted get next n start counts′ at′ (k + 1)
     unfolding walk countsAll
     count-goes cell counts′ at′ h l c p r =
         let more : n - k ≡ suc (n - (k + 1)) = omega arith in
         record { within = omega arith; counted = s .counted ∙ rw (more, lt-ltb at (length next) l, p, c, r) }
 
     pub count-ends : (t : Table) {r : LabResult} → walk next at (n - k) ≡ [] → r ≡ resultFrom t counts 0
-        → r ≡ countedOf t nets e (walk next start n)
+        → r ≡ countedOf t get (walk next start n)
     unfolding countsAll countedOf
     count-ends t z p = p ∙ rw (s .counted, z)

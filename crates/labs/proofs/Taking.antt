@@ -7,7 +7,6 @@ use native.Mathlib.Nat.{sub-zero}
 use native.Mathlib.Omega.{arith}
 use lib.ListN.{length, getD, replicate}
 use borrow.Author.Tests.{lt-ltb}
-use Rattle.sheet.specs.Record.{recordAt}
 use Rattle.sheet.specs.declared.Record.{Record}
 use Rattle.distinct.specs.Nets.{markAll, readMarks}
 use Rattle.distinct.specs.UpToTwo.{codesOf}
@@ -22,23 +21,19 @@ use Rattle.netlist.specs.Tables.{NONE}
 use Rattle.labs.specs.Members.{walk}
 use Rattle.labs.specs.Results.{resultOf}
 
--- the cells of a list, by their numbers
-abbrev cellsOf : ℕ → List ℕ → List ℕ → List Record
-cellsOf nets e is = map (recordAt nets e) is
-
 -- k of at most n cells are taken
-pub record Taken (nets : ℕ) (e next : List ℕ) (n start : ℕ) (m₀ : List ℕ) (counts : Counts) (marks : List ℕ) (at k : ℕ) : Type 0 where
+pub record Taken (get : ℕ → Record) (next : List ℕ) (n start : ℕ) (m₀ : List ℕ) (counts : Counts) (marks : List ℕ) (at k : ℕ) : Type 0 where
   pub within : k ≤ n
-  pub counted : countsAll noCounts (cellsOf nets e (walk next start n)) ≡ countsAll counts (cellsOf nets e (walk next at (n - k)))
-  pub marked : markCells m₀ (cellsOf nets e (walk next start n)) ≡ markCells marks (cellsOf nets e (walk next at (n - k)))
+  pub counted : countsAll noCounts (map get (walk next start n)) ≡ countsAll counts (map get (walk next at (n - k)))
+  pub marked : markCells m₀ (map get (walk next start n)) ≡ markCells marks (map get (walk next at (n - k)))
 
-module _ (nets : ℕ) (e next : List ℕ) (n start : ℕ) (m₀ : List ℕ) where
-  pub take-starts : (counts : Counts) → counts ≡ noCounts → Taken nets e next n start m₀ counts m₀ start 0
+module _ (get : ℕ → Record) (next : List ℕ) (n start : ℕ) (m₀ : List ℕ) where
+  pub take-starts : (counts : Counts) → counts ≡ noCounts → Taken get next n start m₀ counts m₀ start 0
   take-starts counts z = record { within = omega arith; counted = rw (sub-zero n, z); marked = rw (sub-zero n) }
 
-  module _ (counts : Counts) (marks : List ℕ) (at k : ℕ) (s : Taken nets e next n start m₀ counts marks at k) where
-    pub take-goes : (cell : Record) (counts′ : Counts) (marks′ : List ℕ) (at′ : ℕ) → k < n → at < length next → cell ≡ recordAt nets e at
-        → counts′ ≡ countsWith counts cell → marks′ ≡ markAll marks (usesOf cell) → at′ ≡ getD next at NONE → Taken nets e next n start m₀ counts′ marks′ at′ (k + 1)
+  module _ (counts : Counts) (marks : List ℕ) (at k : ℕ) (s : Taken get next n start m₀ counts marks at k) where
+    pub take-goes : (cell : Record) (counts′ : Counts) (marks′ : List ℕ) (at′ : ℕ) → k < n → at < length next → cell ≡ get at
+        → counts′ ≡ countsWith counts cell → marks′ ≡ markAll marks (usesOf cell) → at′ ≡ getD next at NONE → Taken get next n start m₀ counts′ marks′ at′ (k + 1)
     unfolding walk countsAll
     take-goes cell counts′ marks′ at′ h l c p q r =
         let more : n - k ≡ suc (n - (k + 1)) = omega arith in
@@ -49,7 +44,7 @@ module _ (nets : ℕ) (e next : List ℕ) (n start : ℕ) (m₀ : List ℕ) wher
         }
 
     pub take-ends : (t : Table) (m : ℕ) {r : LabResult} → walk next at (n - k) ≡ [] → m ≡ readMarks marks → r ≡ resultFrom t counts m
-        → r ≡ resultFrom t (countsAll noCounts (cellsOf nets e (walk next start n))) (readMarks (markCells m₀ (cellsOf nets e (walk next start n))))
+        → r ≡ resultFrom t (countsAll noCounts (map get (walk next start n))) (readMarks (markCells m₀ (map get (walk next start n))))
     unfolding countsAll markCells markAll
     take-ends t m z q p = p ∙ rw (s .counted, s .marked, z, q)
 
@@ -66,6 +61,6 @@ nothing-broken : (t : Table) (m : ℕ) → m ≡ 0 → resultFrom t noCounts m �
 unfolding resultFrom brokenBy needsHeld codesOf onlyCode labRouteOf eightBytes
 nothing-broken t m z = rw (z, no-needs t)
 
-pub result-none : (t : Table) (nets : ℕ) (e : List ℕ) → resultOf t nets e [] ≡ record { number = 0; bytes = replicate 8 255 }
+pub result-none : (t : Table) (get : ℕ → Record) → resultOf t get [] ≡ record { number = 0; bytes = replicate 8 255 }
 unfolding resultOf countsAll markCells markAll
-result-none t nets e = nothing-broken t (readMarks (replicate 1024 0)) (no-marks 1024)
+result-none t get = nothing-broken t (readMarks (replicate 1024 0)) (no-marks 1024)

@@ -1,7 +1,7 @@
 -- The cells of each LAB: "an occupied LAB is one where the answer sheet puts at least one cell". `n` is the number of cells, `l` a LAB number.
 -- And the lists that hold them: for each LAB its first cell, for each cell the next one of its LAB. Assumes nothing.
 use Prim.Native.Nat.{ℕ, zero, suc}
-use mathlib.Core.Bool.{Bool, cond}
+use mathlib.Core.Bool.{cond}
 use mathlib.Core.List.{List, [], _∷_}
 use lib.ListN.{length, getD, set}
 use lib.Dec.{eqb, ltb}

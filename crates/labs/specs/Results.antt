@@ -1,10 +1,11 @@
--- The result of each LAB from the lists of cells, and the rows of route bytes. `t` is the entry table, `nets` the net count. Assumes nothing.
+-- The result of each LAB from the lists of cells, and the rows of route bytes. `t` is the entry table, `cell` gives what each
+-- cell's record says. Assumes nothing.
 use Prim.Native.Nat.{ℕ, zero, suc, _+_, _*_}
 use mathlib.Core.Bool.{Bool, not}
-use mathlib.Core.List.{List, [], _∷_, map}
+use mathlib.Core.List.{List, map}
 use lib.ListN.{getD, set, replicate}
 use lib.Dec.{eqb}
-use Rattle.sheet.specs.Record.{recordAt}
+use Rattle.sheet.specs.declared.Record.{Record}
 use Rattle.distinct.specs.Nets.{readMarks}
 use Rattle.route.specs.Table.{Table}
 use Rattle.lab.specs.Counts.{noCounts, countsAll, markCells, resultFrom}
@@ -13,21 +14,21 @@ use Rattle.netlist.specs.Tables.{NONE}
 use Rattle.labs.specs.Members.{walk}
 
 -- the result of a LAB with these cells, handed over one by one
-unfoldable pub resultOf : Table → ℕ → List ℕ → List ℕ → LabResult
-resultOf t nets e is =
-    resultFrom t (countsAll noCounts (map (recordAt nets e) is)) (readMarks (markCells (replicate 1024 0) (map (recordAt nets e) is)))
+unfoldable pub resultOf : Table → (ℕ → Record) → List ℕ → LabResult
+resultOf t cell is =
+    resultFrom t (countsAll noCounts (map cell is)) (readMarks (markCells (replicate 1024 0) (map cell is)))
 
 -- the same with no net counted
-unfoldable pub countedOf : Table → ℕ → List ℕ → List ℕ → LabResult
-countedOf t nets e is = resultFrom t (countsAll noCounts (map (recordAt nets e) is)) 0
+unfoldable pub countedOf : Table → (ℕ → Record) → List ℕ → LabResult
+countedOf t cell is = resultFrom t (countsAll noCounts (map cell is)) 0
 
 -- the result of LAB l
-unfoldable pub resultAt : Table → ℕ → List ℕ → List ℕ → List ℕ → ℕ → LabResult
-resultAt t nets e first next l = resultOf t nets e (walk next (getD first l NONE) 512)
+unfoldable pub resultAt : Table → (ℕ → Record) → List ℕ → List ℕ → ℕ → LabResult
+resultAt t cell first next l = resultOf t cell (walk next (getD first l NONE) 512)
 
 -- LAB l breaks one of 60 to 65
-unfoldable pub brokenLab : Table → ℕ → List ℕ → List ℕ → List ℕ → ℕ → Bool
-brokenLab t nets e first next l = not (eqb (resultAt t nets e first next l .number) 0)
+unfoldable pub brokenLab : Table → (ℕ → Record) → List ℕ → List ℕ → ℕ → Bool
+brokenLab t cell first next l = not (eqb (resultAt t cell first next l .number) 0)
 
 -- the eight bytes b of LAB l, put into the rows: "8 bytes per LAB at 8 × LAB number"
 unfoldable pub putRow : List ℕ → ℕ → List ℕ → List ℕ

@@ -6,6 +6,7 @@ ghost use mathlib.Core.Bool.{true};
 ghost use Prim.Native.Nat.{_<_, _≤_};
 ghost use lib.ListN.{length, getD, set};
 ghost use Rattle.sheet.specs.Lists.{firstFrom};
+ghost use Rattle.sheet.specs.Record.{knownAt};
 ghost use Rattle.labs.specs.Members.{Links, link, linkBelow, walk};
 ghost use Rattle.labs.specs.Results.{resultOf, countedOf, resultAt, brokenLab, putRow, putRows};
 
@@ -54,14 +55,8 @@ fn entry(table: &[u16], i: usize) -> u16
 }
 
 // The result of the LAB whose list begins with a cell.
-fn result_from(
-    table: [[bool; 5]; 6],
-    exercise: &[u8],
-    nets: u16,
-    next: &[u16],
-    start: u16,
-) -> LabResult
-    ensures { λ r. ⌜ r ≡ resultOf table nets (now (exercise .entry)) (walk (now (next .entry)) start 512) ⌝ }
+fn result_from(table: [[bool; 5]; 6], exercise: &[u8], next: &[u16], start: u16) -> LabResult
+    ensures { λ r. ⌜ r ≡ resultOf table (knownAt (now (exercise .entry))) (walk (now (next .entry)) start 512) ⌝ }
 {
     let mut counts = Counts::none();
     let mut marks = [0u8; 1024];
@@ -71,7 +66,7 @@ fn result_from(
         if next.len() <= at as usize {
             return lab::lab_result(table, counts, distinct::count_read(&marks));
         }
-        let cell = sheet::record_at(exercise, CellNumber(at), nets);
+        let cell = sheet::known_record_at(exercise, CellNumber(at));
         counts = counts.with(cell);
         lab::mark_cell(&mut marks, cell);
         at = entry(next, at as usize);
@@ -97,14 +92,8 @@ fn is_short(next: &[u16], start: u16) -> bool
 }
 
 // The result of the LAB whose list begins with a cell, its nets not counted.
-fn counted_from(
-    table: [[bool; 5]; 6],
-    exercise: &[u8],
-    nets: u16,
-    next: &[u16],
-    start: u16,
-) -> LabResult
-    ensures { λ r. ⌜ r ≡ countedOf table nets (now (exercise .entry)) (walk (now (next .entry)) start 512) ⌝ }
+fn counted_from(table: [[bool; 5]; 6], exercise: &[u8], next: &[u16], start: u16) -> LabResult
+    ensures { λ r. ⌜ r ≡ countedOf table (knownAt (now (exercise .entry))) (walk (now (next .entry)) start 512) ⌝ }
 {
     let mut counts = Counts::none();
     let mut at = start;
@@ -113,7 +102,7 @@ fn counted_from(
         if next.len() <= at as usize {
             return lab::lab_result(table, counts, 0);
         }
-        let cell = sheet::record_at(exercise, CellNumber(at), nets);
+        let cell = sheet::known_record_at(exercise, CellNumber(at));
         counts = counts.with(cell);
         at = entry(next, at as usize);
         i += 1;
@@ -125,12 +114,11 @@ fn counted_from(
 pub fn result_at(
     table: [[bool; 5]; 6],
     exercise: &[u8],
-    nets: u16,
     first: &[u16],
     next: &[u16],
     lab: usize,
 ) -> LabResult
-    ensures { λ r. ⌜ r ≡ resultAt table nets (now (exercise .entry)) (now (first .entry)) (now (next .entry)) lab ⌝ }
+    ensures { λ r. ⌜ r ≡ resultAt table (knownAt (now (exercise .entry))) (now (first .entry)) (now (next .entry)) lab ⌝ }
 {
     let start = entry(first, lab);
     if next.len() <= start as usize {
@@ -140,9 +128,9 @@ pub fn result_at(
         };
     }
     if is_short(next, start) {
-        return counted_from(table, exercise, nets, next, start);
+        return counted_from(table, exercise, next, start);
     }
-    result_from(table, exercise, nets, next, start)
+    result_from(table, exercise, next, start)
 }
 
 // Puts a LAB's eight route bytes into the rows.
@@ -165,17 +153,16 @@ fn put_row(rows: &mut [u8; 8192], lab: u16, bytes: [u8; 8])
 pub fn route_labs(
     table: [[bool; 5]; 6],
     exercise: &[u8],
-    nets: u16,
     first: &[u16],
     next: &[u16],
     rows: &mut [u8; 8192],
 ) -> u16
-    ensures found { λ r. ⌜ r ≡ firstFrom (brokenLab table nets (now (exercise .entry)) (now (first .entry)) (now (next .entry))) 0 1024 ⌝ }
-    ensures written { λ r. ⌜ now (rows .exit) ≡ putRows (λ l. resultAt table nets (now (exercise .entry)) (now (first .entry)) (now (next .entry)) l .bytes) (now (rows .entry)) r ⌝ }
+    ensures found { λ r. ⌜ r ≡ firstFrom (brokenLab table (knownAt (now (exercise .entry))) (now (first .entry)) (now (next .entry))) 0 1024 ⌝ }
+    ensures written { λ r. ⌜ now (rows .exit) ≡ putRows (λ l. resultAt table (knownAt (now (exercise .entry))) (now (first .entry)) (now (next .entry)) l .bytes) (now (rows .entry)) r ⌝ }
 {
     let mut lab: u16 = 0;
     while lab < LABS {
-        let result = result_at(table, exercise, nets, first, next, lab as usize);
+        let result = result_at(table, exercise, first, next, lab as usize);
         if result.number != 0 {
             return lab;
         }

@@ -10,7 +10,7 @@ ghost use lib.ListN.{getD, set, replicate};
 ghost use Rattle.sheet.specs.Lists.{firstFrom};
 ghost use Rattle.sheet.specs.Checks.{firstNumber};
 ghost use Rattle.sheet.specs.Signal.{isNet, netOf};
-ghost use Rattle.sheet.specs.Record.{outputs};
+ghost use Rattle.sheet.specs.Record.{outputs, knownAt};
 ghost use Rattle.sheet.specs.declared.Record.«the-variants».{Combinational, Register};
 ghost use Rattle.netlist.specs.Cells.{badData, registerChecks, allInputs};
 ghost use Rattle.netlist.specs.Tables.{malformedAt, isMarked, withMark, markedTwice, markEach, doubleFrom, readOnce, readEach, withReader, withDriver, readsBelow, readersBelow, driversBelow, cellFor, isOther, notFedBy, notReadOnceBy, numberBy, brokenAt};
@@ -78,13 +78,13 @@ fn drives_again(marks: &mut [u8], cell: Record) -> bool
 }
 
 // 16: the lowest cell that drives a net which is driven already, or the number of cells.
-pub fn first_double_driver(exercise: &[u8], nets: u16, cells: u16) -> u16
-    ensures { λ r. ⌜ r ≡ doubleFrom nets (now (exercise .entry)) (replicate 1024 0) 0 cells ⌝ }
+pub fn first_double_driver(exercise: &[u8], cells: u16) -> u16
+    ensures { λ r. ⌜ r ≡ doubleFrom (knownAt (now (exercise .entry))) (replicate 1024 0) 0 cells ⌝ }
 {
     let mut marks = [0u8; 1024];
     let mut i: u16 = 0;
     while i < cells {
-        if drives_again(&mut marks, sheet::record_at(exercise, CellNumber(i), nets)) {
+        if drives_again(&mut marks, sheet::known_record_at(exercise, CellNumber(i))) {
             return i;
         }
         i += 1;
@@ -176,19 +176,18 @@ fn note_driver(drivers: &mut [u16], i: u16, cell: Record)
 // Fills the tables by net in one pass: how often a net is read, which cell reads it at cin, which cell's cout drives it.
 pub fn fill_tables(
     exercise: &[u8],
-    nets: u16,
     cells: u16,
     reads: &mut [u8],
     readers: &mut [u16],
     drivers: &mut [u16],
 )
-    ensures counted { λ _. ⌜ now (reads .exit) ≡ readsBelow nets (now (exercise .entry)) (now (reads .entry)) cells ⌝ }
-    ensures read { λ _. ⌜ now (readers .exit) ≡ readersBelow nets (now (exercise .entry)) (now (readers .entry)) cells ⌝ }
-    ensures driven { λ _. ⌜ now (drivers .exit) ≡ driversBelow nets (now (exercise .entry)) (now (drivers .entry)) cells ⌝ }
+    ensures counted { λ _. ⌜ now (reads .exit) ≡ readsBelow (knownAt (now (exercise .entry))) (now (reads .entry)) cells ⌝ }
+    ensures read { λ _. ⌜ now (readers .exit) ≡ readersBelow (knownAt (now (exercise .entry))) (now (readers .entry)) cells ⌝ }
+    ensures driven { λ _. ⌜ now (drivers .exit) ≡ driversBelow (knownAt (now (exercise .entry))) (now (drivers .entry)) cells ⌝ }
 {
     let mut i: u16 = 0;
     while i < cells {
-        let cell = sheet::record_at(exercise, CellNumber(i), nets);
+        let cell = sheet::known_record_at(exercise, CellNumber(i));
         note_reads(reads, cell);
         note_reader(readers, i, cell);
         note_driver(drivers, i, cell);
@@ -327,17 +326,16 @@ pub fn cell_number(cell: Record, i: u16, reads: &[u8], readers: &[u16], drivers:
 // 30 to 44: the lowest cell that breaks one of them, or the number of cells.
 pub fn first_broken_cell(
     exercise: &[u8],
-    nets: u16,
     cells: u16,
     reads: &[u8],
     readers: &[u16],
     drivers: &[u16],
 ) -> u16
-    ensures { λ r. ⌜ r ≡ firstFrom (brokenAt (now (reads .entry)) (now (readers .entry)) (now (drivers .entry)) nets (now (exercise .entry))) 0 cells ⌝ }
+    ensures { λ r. ⌜ r ≡ firstFrom (brokenAt (now (reads .entry)) (now (readers .entry)) (now (drivers .entry)) (knownAt (now (exercise .entry)))) 0 cells ⌝ }
 {
     let mut i: u16 = 0;
     while i < cells {
-        let cell = sheet::record_at(exercise, CellNumber(i), nets);
+        let cell = sheet::known_record_at(exercise, CellNumber(i));
         if cell_number(cell, i, reads, readers, drivers) != 0 {
             return i;
         }

@@ -16,7 +16,7 @@ use Rattle.sheet.proofs.Laws.{by-test, and-parts, or-parts}
 use Rattle.sheet.proofs.Record.{enum}
 use Rattle.sheet.specs.Signal.{isNet}
 use Rattle.sheet.specs.Exercise.{recordStart, recordPart}
-use Rattle.sheet.specs.Record.{recordOf, recordAt, kindOf, codeAt, keepsCombinational, keepsRegister}
+use Rattle.sheet.specs.Record.{knownOf, knownAt, kindOf, codeAt}
 use Rattle.sheet.specs.declared.Record.{Record}
 use Rattle.sheet.specs.declared.Record.the-variants.{Combinational, Register, Malformed}
 use Rattle.sheet.specs.Bytes.{byteAt, partAt}
@@ -85,9 +85,9 @@ not-fed drivers a i (Combinational c) h = absurd (⊎-elim (λ e. omega arith) (
 not-fed drivers a i (Register r) h = refl
 not-fed drivers a i Malformed h = refl
 
-pub detached-told : (drivers a : List ℕ) (nets : ℕ) (e : List ℕ) (i : ℕ) (cell : Record) (b : Bool) → cell ≡ recordAt nets e i → b ≡ detachedBy drivers a i cell → b ≡ detachedAt drivers a nets e i
+pub detached-told : (drivers a : List ℕ) (get : ℕ → Record) (i : ℕ) (cell : Record) (b : Bool) → cell ≡ get i → b ≡ detachedBy drivers a i cell → b ≡ detachedAt drivers a get i
 unfolding detachedAt
-detached-told drivers a nets e i cell b h k = k ∙ ap (detachedBy drivers a i) h
+detached-told drivers a get i cell b h k = k ∙ ap (detachedBy drivers a i) h
 
 -- ---- a cell that its bytes show to be unfed
 byte-of-record : (e : List ℕ) (i k : ℕ) → k < 24 → byteAt (recordPart e i) k ≡ byteAt e (recordStart i + k)
@@ -106,25 +106,19 @@ or-cases : {G : Type 0} (a b : Bool) → a || b ≡ true → (a ≡ true → G) 
 or-cases true b h f g = f refl
 or-cases false b h f g = g h
 
-none-fed : (drivers a : List ℕ) (nets i : ℕ) (p : List ℕ) → eqb (kindOf p) 1 ≡ false → false ≡ detachedBy drivers a i (recordOf nets p)
-unfolding recordOf detachedBy
-none-fed drivers a nets i p k =
-    by-test (not (eqb (length p) 24)) (λ l. rw l)
-    (λ l. by-test (eqb (kindOf p) 2)
-    (λ r. by-test (keepsRegister nets p) (λ h. rw (l, k, r, h)) (λ h. rw (l, k, r, h)))
-    (λ r. rw (l, k, r)))
+none-fed : (drivers a : List ℕ) (i : ℕ) (p : List ℕ) → eqb (kindOf p) 1 ≡ false → false ≡ detachedBy drivers a i (knownOf p)
+unfolding knownOf detachedBy
+none-fed drivers a i p k = by-test (not (eqb (length p) 24)) (λ l. rw l) (λ l. rw (l, k))
 
-open-unfed : (drivers a : List ℕ) (nets i : ℕ) (p : List ℕ) → isNet (codeAt p 4) ≡ false → false ≡ detachedBy drivers a i (recordOf nets p)
-unfolding recordOf detachedBy
-open-unfed drivers a nets i p n =
-    by-test (eqb (kindOf p) 1)
-    (λ k. by-test (not (eqb (length p) 24)) (λ l. rw l)
-    (λ l. by-test (keepsCombinational nets p) (λ h. rw (l, k, h, n)) (λ h. rw (l, k, h))))
-    (λ k. none-fed drivers a nets i p k)
+open-unfed : (drivers a : List ℕ) (i : ℕ) (p : List ℕ) → isNet (codeAt p 4) ≡ false → false ≡ detachedBy drivers a i (knownOf p)
+unfolding knownOf detachedBy
+open-unfed drivers a i p n =
+    by-test (eqb (kindOf p) 1) (λ k. by-test (not (eqb (length p) 24)) (λ l. rw l) (λ l. rw (l, k, n)))
+    (λ k. none-fed drivers a i p k)
 
-pub unfed-stands : (drivers a : List ℕ) (nets : ℕ) (e : List ℕ) (i : ℕ) → unfedAt e i ≡ true → false ≡ detachedAt drivers a nets e i
-unfolding unfedAt detachedAt recordAt
-unfed-stands drivers a nets e i h =
+pub unfed-stands : (drivers a e : List ℕ) (i : ℕ) → unfedAt e i ≡ true → false ≡ detachedAt drivers a (knownAt e) i
+unfolding unfedAt detachedAt knownAt
+unfed-stands drivers a e i h =
     or-cases (not (eqb (kindAt e i) 1)) (ltb (byteAt e (recordStart i + 10)) 4 && eqb (byteAt e (recordStart i + 11)) 0) h
-    (λ k. none-fed drivers a nets i (recordPart e i) (rw (kind-of-record e i) (not-true (eqb (kindAt e i) 1) k)))
-    (λ c. let b = and-parts (ltb (byteAt e (recordStart i + 10)) 4) (eqb (byteAt e (recordStart i + 11)) 0) c in open-unfed drivers a nets i (recordPart e i) (cin-low e i (b .0) (b .1)))
+    (λ k. none-fed drivers a i (recordPart e i) (rw (kind-of-record e i) (not-true (eqb (kindAt e i) 1) k)))
+    (λ c. let b = and-parts (ltb (byteAt e (recordStart i + 10)) 4) (eqb (byteAt e (recordStart i + 11)) 0) c in open-unfed drivers a i (recordPart e i) (cin-low e i (b .0) (b .1)))

@@ -9,7 +9,6 @@ use Rattle.sheet.specs.Bytes.{byteAt}
 use Rattle.sheet.specs.Signal.{isNet, isInverted}
 use Rattle.sheet.specs.Exercise.{recordStart}
 use Rattle.sheet.specs.Answer.{placeStart, placedAt}
-use Rattle.sheet.specs.Record.{recordAt}
 use Rattle.sheet.specs.declared.Placed.{Placed}
 use Rattle.sheet.specs.declared.Placed.the-variants.{At, OutOfRange}
 use Rattle.sheet.specs.declared.Record.{Record}
@@ -69,6 +68,6 @@ detachedBy drivers a i Malformed = false
 unfoldable pub unfedAt : List ℕ → ℕ → Bool
 unfedAt e i = not (eqb (kindAt e i) 1) || ltb (byteAt e (recordStart i + 10)) 4 && eqb (byteAt e (recordStart i + 11)) 0
 
--- 51 at cell i of the sheets
-unfoldable pub detachedAt : List ℕ → List ℕ → ℕ → List ℕ → ℕ → Bool
-detachedAt drivers a nets e i = detachedBy drivers a i (recordAt nets e i)
+-- 51 at cell i, where `cell` gives what each cell's record says
+unfoldable pub detachedAt : List ℕ → List ℕ → (ℕ → Record) → ℕ → Bool
+detachedAt drivers a cell i = detachedBy drivers a i (cell i)

@@ -6,7 +6,7 @@ ghost use mathlib.Core.Bool.{true};
 ghost use Prim.Native.Nat.{_+_, _*_, _<_};
 ghost use lib.ListN.{replicate};
 ghost use Rattle.sheet.specs.Lists.{firstFrom};
-ghost use Rattle.sheet.specs.Record.{recordAt};
+ghost use Rattle.sheet.specs.Record.{knownAt};
 ghost use Rattle.placing.specs.Places.{kindAt, xAt, yAt, leAt, labAt, outOfRangeAt, samePlace, placeTaken, follows, detachedBy, unfedAt, detachedAt};
 ghost use Rattle.placing.specs.Marks.{spot, isPlain, mayClash};
 ghost use Rattle.netlist.specs.Tables.{cellFor};
@@ -203,8 +203,8 @@ fn is_unfed(exercise: &[u8], i: u16) -> bool
 }
 
 // 51 at a cell. A record is decoded only where its bytes show a carry in.
-fn is_detached_at(exercise: &[u8], answer: &[u8], nets: u16, drivers: &[u16], i: u16) -> bool
-    ensures { λ r. ⌜ r ≡ detachedAt (now (drivers .entry)) (now (answer .entry)) nets (now (exercise .entry)) i ⌝ }
+fn is_detached_at(exercise: &[u8], answer: &[u8], drivers: &[u16], i: u16) -> bool
+    ensures { λ r. ⌜ r ≡ detachedAt (now (drivers .entry)) (now (answer .entry)) (knownAt (now (exercise .entry))) i ⌝ }
 {
     if is_unfed(exercise, i) {
         return false;
@@ -213,17 +213,17 @@ fn is_detached_at(exercise: &[u8], answer: &[u8], nets: u16, drivers: &[u16], i:
         drivers,
         answer,
         i,
-        sheet::record_at(exercise, CellNumber(i), nets),
+        sheet::known_record_at(exercise, CellNumber(i)),
     )
 }
 
 // 51: the lowest cell that is fed by a cout and does not stand where the carry goes on, or the number of cells.
-pub fn first_detached(exercise: &[u8], answer: &[u8], nets: u16, cells: u16, drivers: &[u16]) -> u16
-    ensures { λ r. ⌜ r ≡ firstFrom (detachedAt (now (drivers .entry)) (now (answer .entry)) nets (now (exercise .entry))) 0 cells ⌝ }
+pub fn first_detached(exercise: &[u8], answer: &[u8], cells: u16, drivers: &[u16]) -> u16
+    ensures { λ r. ⌜ r ≡ firstFrom (detachedAt (now (drivers .entry)) (now (answer .entry)) (knownAt (now (exercise .entry)))) 0 cells ⌝ }
 {
     let mut i: u16 = 0;
     while i < cells {
-        if is_detached_at(exercise, answer, nets, drivers, i) {
+        if is_detached_at(exercise, answer, drivers, i) {
             return i;
         }
         i += 1;

@@ -9,7 +9,7 @@ cell-finding-spec =
     tie.close
     (tie.spec
     (λ c κs. search needs)  -- first-broken-cell-requires
-    (λ c κs. search needs)  -- record-at-requires
+    (λ c κs. search needs)  -- known-record-at-requires
     (λ c κs. search needs)  -- cell-number-requires
     (λ c κs. search needs)  -- at-cell-requires
     (λ c. search cell-steps depth 20)  -- returns

@@ -8,7 +8,6 @@ pub cells-finding-spec : {M : Type 1} → statement M
 cells-finding-spec =
     tie.close
     (tie.spec
-    (λ c κs. search needs)  -- net-count-requires
     (λ c κs. search needs)  -- cell-count-requires
     (λ c. search needs)  -- slice-aggregate-fill-tables
     (λ c. search needs)  -- slice-aggregate-fill-tables-2

@@ -14,9 +14,8 @@ returns c =
     let p = i .before in
     let l = p .before .before .before .before .before .before in
     let m = l .before .before .before in
-    let n = m .before in
-    let k = n .before .before .before .before in
-    labs-stop (k .args .table) (now (k .args .exercise)) (now (k .args .answer)) (length (now (k .args .route))) (k .pre) _ _ _ _ (n .net-count .ensures) (m .cell-count .ensures)
+    let k = m .before .before .before .before in
+    labs-stop (k .args .table) (now (k .args .exercise)) (now (k .args .answer)) (length (now (k .args .route))) (k .pre) _ _ _ (m .cell-count .ensures)
     (l .link-cells .ensures .0) (l .link-cells .ensures .1) _ (p .route-labs .ensures .0) _ (now (k .args .route)) (omega (arith, i .if1 .taken)) (c .lab-finding .ensures)
 
 copy-requires : tie.Need-copy-requires
@@ -24,8 +23,7 @@ copy-requires c κs =
     let p = c .before .before .before in
     let l = p .before .before .before .before .before .before in
     let m = l .before .before .before in
-    let n = m .before in
-    let k = n .before .before .before .before in
+    let k = m .before .before .before .before in
     sym (rows-size _ _ _ (p .route-labs .ensures .1))
     ∙ sym (whole-room (k .args .table) (now (k .args .exercise)) (now (k .args .answer)) (length (now (k .args .route))) (k .pre))
 
@@ -36,16 +34,14 @@ returns-2 c =
     let p = i .before in
     let l = p .before .before .before .before .before .before in
     let m = l .before .before .before in
-    let n = m .before in
-    let k = n .before .before .before .before in
-    labs-go (k .args .table) (now (k .args .exercise)) (now (k .args .answer)) (length (now (k .args .route))) (k .pre) _ _ _ _ (n .net-count .ensures) (m .cell-count .ensures)
+    let k = m .before .before .before .before in
+    labs-go (k .args .table) (now (k .args .exercise)) (now (k .args .answer)) (length (now (k .args .route))) (k .pre) _ _ _ (m .cell-count .ensures)
     (l .link-cells .ensures .0) (l .link-cells .ensures .1) _ (p .route-labs .ensures .0) _ (now (k .args .route)) _ _ (omega (arith, i .if1 .left)) (c .plain .ensures) (p .route-labs .ensures .1) (o .copy .ensures)
 
 pub judge-labs-spec : {M : Type 1} → statement M
 judge-labs-spec =
     tie.close
     (tie.spec
-    (λ c κs. search needs)  -- net-count-requires
     (λ c κs. search needs)  -- cell-count-requires
     (λ c. search needs)  -- slice-aggregate-link-cells
     (λ c. search needs)  -- slice-aggregate-link-cells-2

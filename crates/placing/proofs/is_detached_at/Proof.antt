@@ -10,7 +10,7 @@ is-detached-at-spec =
     tie.close
     (tie.spec
     (λ c κs. search needs)  -- is-unfed-requires
-    (λ c. unfed-stands _ _ _ _ _ (sym (c .before .is-unfed .ensures) ∙ c .if1 .taken))  -- returns
-    (λ c κs. search needs)  -- record-at-requires
+    (λ c. unfed-stands _ _ _ _ (sym (c .before .is-unfed .ensures) ∙ c .if1 .taken))  -- returns
+    (λ c κs. search needs)  -- known-record-at-requires
     (λ c κs. search needs)  -- is-detached-requires
     (λ c. search (needs, detached-told)))  -- returns-2
