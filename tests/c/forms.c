@@ -24,46 +24,43 @@ static uint8_t next(int of_answer, const uint8_t *sheet, size_t length, uint16_t
     return said;
 }
 
+/* Two records in a sheet with this head and record size, cut short at every length: opening gives `early` while the head is cut off and
+ * `late` while a record is. */
+static void cut_short(int of_answer, const uint8_t *sheet, size_t head, size_t record, uint8_t early, uint8_t late,
+                      const uint16_t *first, const uint16_t *second)
+{
+    uint16_t fields[NURIMKKOT_CELL_FIELDS], at;
+    size_t n = of_answer ? NURIMKKOT_PLACE_FIELDS : NURIMKKOT_CELL_FIELDS, length;
+    for (length = 0; length <= head + 2 * record; length++) {
+        uint8_t *own = copy_of(sheet, length);
+        uint8_t opened = of_answer ? nurimkkot_open_answer(own, length) : nurimkkot_open_exercise(own, length);
+        size_t whole = length < head + record ? 0 : length < head + 2 * record ? 1 : 2, k;
+        free(own);
+        expect(opened == (length < head ? early : whole < 2 ? late : 0), "opening a sheet", (long)length);
+        at = 0;
+        for (k = 0; k < whole; k++) {
+            expect(next(of_answer, sheet, length, &at, fields) == NURIMKKOT_GIVEN, "a record", (long)length);
+            expect(memcmp(fields, k ? second : first, 2 * n) == 0, "its fields", (long)k);
+        }
+        /* The count stands at the head's end: cut off it reads as 0, otherwise it asks for two records. */
+        for (k = 0; k < 2; k++)
+            expect(next(of_answer, sheet, length, &at, fields) == (length < head - 1 || whole == 2 ? NURIMKKOT_END : NURIMKKOT_BROKEN),
+                   "after the last record", (long)length);
+    }
+}
+
 static void readers(void)
 {
     static const uint16_t cells[2][NURIMKKOT_CELL_FIELDS] = {
         {2, 0, 4, 6, 0, 8, 0, 0, 0, 10, 0, 0, 0},
         {1, 0, 10, 0, 0, 0, 0, 4, 0, 0, 0, 0, 0},
     };
+    static const uint16_t place[NURIMKKOT_PLACE_FIELDS] = {2, 1, 0};
     uint16_t fields[NURIMKKOT_CELL_FIELDS], at;
     uint8_t damaged[sizeof EXERCISE];
-    size_t length;
-    int k;
 
-    for (length = 0; length <= sizeof EXERCISE; length++) {
-        uint8_t *own = copy_of(EXERCISE, length);
-        int whole = length < 33 ? 0 : length < 57 ? 1 : 2;
-        expect(nurimkkot_open_exercise(own, length) == (length < 9 ? 10 : length < 57 ? 14 : 0), "opening an exercise", (long)length);
-        free(own);
-        at = 0;
-        for (k = 0; k < whole; k++) {
-            expect(next(0, EXERCISE, length, &at, fields) == NURIMKKOT_GIVEN, "a cell", (long)length);
-            expect(memcmp(fields, cells[k], sizeof fields) == 0, "its fields", k);
-        }
-        /* A count cut off reads as 0; one that is there asks for two records. */
-        for (k = 0; k < 2; k++)
-            expect(next(0, EXERCISE, length, &at, fields) == (length < 8 || whole == 2 ? NURIMKKOT_END : NURIMKKOT_BROKEN),
-                   "after the last cell", (long)length);
-    }
-    for (length = 0; length <= sizeof ANSWER; length++) {
-        uint8_t *own = copy_of(ANSWER, length);
-        int whole = length < 15 ? 0 : length < 19 ? 1 : 2;
-        expect(nurimkkot_open_answer(own, length) == (length < 11 ? 20 : length < 19 ? 25 : 0), "opening an answer", (long)length);
-        free(own);
-        at = 0;
-        for (k = 0; k < whole; k++) {
-            expect(next(1, ANSWER, length, &at, fields) == NURIMKKOT_GIVEN, "a place", (long)length);
-            expect(fields[0] == 2 && fields[1] == 1 && fields[2] == 0, "its x, y and LE", k);
-        }
-        for (k = 0; k < 2; k++)
-            expect(next(1, ANSWER, length, &at, fields) == (length < 10 || whole == 2 ? NURIMKKOT_END : NURIMKKOT_BROKEN),
-                   "after the last place", (long)length);
-    }
+    cut_short(0, EXERCISE, 9, 24, 10, 14, cells[0], cells[1]);
+    cut_short(1, ANSWER, 11, 4, 20, 25, place, place);
     memcpy(damaged, EXERCISE, sizeof EXERCISE);
     damaged[9] = 3;
     at = 0;

@@ -7,10 +7,11 @@ pub mod LabsFound
 pub mod FitCells
 pub mod Held
 pub mod EightBytes
+pub mod Refusal65
+pub mod Kept
 pub mod RouteHeld
 pub mod Demand1
 pub mod Demand2
-pub mod Refusal65
 pub mod Demand3
 pub mod CulpritInside
 pub mod Steps

@@ -18,10 +18,12 @@ use Rattle.route.specs.Route.{firstWay, eightBytes, labRouteOf}
 use Rattle.route.proofs.Ways.{first-way-some}
 use Rattle.lab.specs.Rules.{needs, isNone, noWay, routeOf}
 use Rattle.lab.proofs.Needed.{needs-room}
+use Rattle.placing.proofs.Places.{lab-in-range}
 use Rattle.judge.specs.Judge.{labCells, judged, routed}
 use Rattle.judge.specs.Demands.{AllHold, labNeeds, Occupied, byteOf, HoldsFirstWay}
 use Rattle.judge.proofs.FitCells.{lab-fit}
-use Rattle.judge.proofs.Held.{few-nets, lab-low, cell-holds, lab-holds}
+use Rattle.judge.proofs.Held.{to-51-holds, lab-holds}
+use Rattle.judge.proofs.Kept.{Kept, all-kept}
 use Rattle.judge.proofs.EightBytes.{room, count, slot, slot-held, slot-free}
 
 -- ---- rows of eight bytes
@@ -52,6 +54,9 @@ found-way (some w) h = (w, refl)
 
 -- ---- a legal verdict
 module _ (t : Table) (e a before : List ℕ) (legal : judged t e a (length before) .number ≡ 0) where
+  kept : Kept e a
+  kept = all-kept e a (length before) (to-51-holds t e a (length before) legal)
+
   pub written : routed t e a before ≡ concatMap (λ l. routeOf t (labCells e a l)) (below 1024)
   unfolding routed
   written = rw legal
@@ -69,7 +74,7 @@ module _ (t : Table) (e a before : List ℕ) (legal : judged t e a (length befor
   lab-held l h =
       let cs = labCells e a l in
       let ok = lab-holds t e a (length before) legal l h in
-      let fit = lab-fit e a (few-nets t e a (length before) legal) (cell-holds t e a (length before) legal) l in
+      let fit = lab-fit e a (kept .few) (kept .keeps) l in
       let way = found-way (firstWay t (needs cs)) (ok .1 .1 .1 .1 .1 .0) in
       let first = first-way-some t (needs cs) (way .0) (way .1) in
       record {
@@ -89,7 +94,7 @@ module _ (t : Table) (e a before : List ℕ) (legal : judged t e a (length befor
   pub legal-route : (l : ℕ) → Occupied t e a l → HoldsFirstWay t e a (routed t e a before) l
   unfolding Occupied
   legal-route l o =
-      let g = lab-held l (rw (o .2) at (lab-low t e a (length before) legal (o .0) (o .1))) in
+      let g = lab-held l (rw (o .2) at (lab-in-range a (o .0) (kept .placed (o .0) (o .1)))) in
       let held = slot-held (labNeeds t e a l) (g .w) (g .is-way .as-long) (g .fits) in
       record {
         w = g .w;

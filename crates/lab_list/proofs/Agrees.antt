@@ -32,7 +32,7 @@ use Rattle.judge.proofs.RouteHeld.{route-eight, written}
 use Rattle.lab_list.specs.declared.CellRecord.{CellRecord}
 use Rattle.lab_list.specs.ListCheck.{listVerdict}
 use Rattle.lab_list.specs.Agreement.{ListOf, ListLaw}
-use Rattle.lab_list.proofs.Kept.{all-kept}
+use Rattle.judge.proofs.Kept.{all-kept}
 use Rattle.lab_list.proofs.Crowd.{member-is, at-most-32}
 use Rattle.lab_list.proofs.Sheets.{Whole, Keeping, list-of-sheet, passes-18}
 

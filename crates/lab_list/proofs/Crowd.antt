@@ -20,7 +20,7 @@ use Rattle.placing.specs.Places.{kindAt, xAt, yAt, leAt, labAt, samePlace, plac
 use Rattle.placing.proofs.Places.{in-range, kind-of-record}
 use Rattle.labs.specs.Members.{members}
 use Rattle.sheet.proofs.First.{none-below, first-is}
-use Rattle.lab_list.proofs.Kept.{Kept}
+use Rattle.judge.proofs.Kept.{Kept}
 
 -- a rising list has each of its numbers once
 once : (l : List ℕ) → Above 0 l → distinct l ≡ length l

@@ -1,4 +1,3 @@
-pub mod Kept
 pub mod Crowd
 pub mod Sheets
 pub mod Agrees

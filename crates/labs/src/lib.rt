@@ -110,7 +110,7 @@ fn counted_from(table: [[bool; 5]; 6], exercise: &[u8], next: &[u16], start: u16
     lab::lab_result(table, counts, 0)
 }
 
-// The result of a LAB. One without cells keeps every rule and has eight 255s. Five cells read 35 nets at the most: they keep 64.
+// The result of a LAB of an exercise that passes 15. One without cells keeps every rule and has eight 255s. Five cells read 35 nets at the most: they keep 64.
 pub fn result_at(
     table: [[bool; 5]; 6],
     exercise: &[u8],
@@ -149,7 +149,7 @@ fn put_row(rows: &mut [u8; 8192], lab: u16, bytes: [u8; 8])
     rows[at + 7] = bytes[7];
 }
 
-// 60 to 65: the lowest LAB that breaks one of them, or 1,024. The route bytes of the LABs below it are put into the rows.
+// 60 to 65, in an exercise that passes 15: the lowest LAB that breaks one of them, or 1,024. The route bytes of the LABs below it are put into the rows.
 pub fn route_labs(
     table: [[bool; 5]; 6],
     exercise: &[u8],
