@@ -1,16 +1,21 @@
 -- What the route buffer holds when the verdict is legal: for each LAB the entries of its earliest way, each at the byte of its need, and 255
 -- in every byte that no need has. Assumes nothing.
 use Prim.Native.Nat.{ℕ, zero, suc, _+_, _*_, _/_, _%_, _<_, _≤_}
-use mathlib.Core.Path.{_≡_, refl, _∙_}
+use mathlib.Core.Path.{_≡_, refl, sym, _∙_}
 use mathlib.Core.Logic.{_⊎_}
-use mathlib.Core.Bool.{false, true≢false}
+use mathlib.Core.Bool.{Bool, true, false, true≢false}
 use mathlib.Core.List.{List}
 use mathlib.Core.Option.{Option, none, some}
 use native.Mathlib.Nat.{zero-add, add-zero}
 use native.Mathlib.Omega.{arith}
 use lib.ListN.{length, getD, List·getD-append}
 use lib.Seq.{getD-append-add}
-use Rattle.sheet.specs.Lists.{concatMap, from, below}
+use lib.Dec.{eqb}
+use borrow.Author.Tests.{eqb-true, ltb-true}
+use Rattle.sheet.specs.Lists.{concatMap, from, below, firstFrom}
+use Rattle.sheet.specs.Exercise.{cellCount}
+use Rattle.sheet.proofs.First.{some-below}
+use Rattle.sheet.proofs.Scan.{any-below}
 use Rattle.route.specs.declared.Need.{Need}
 use Rattle.route.specs.Table.{Table}
 use Rattle.route.specs.Way.{Way, Earlier}
@@ -18,9 +23,10 @@ use Rattle.route.specs.Route.{firstWay, eightBytes, labRouteOf}
 use Rattle.route.proofs.Ways.{first-way-some}
 use Rattle.lab.specs.Rules.{needs, isNone, noWay, routeOf}
 use Rattle.lab.proofs.Needed.{needs-room}
+use Rattle.placing.specs.Places.{labAt}
 use Rattle.placing.proofs.Places.{lab-in-range}
-use Rattle.judge.specs.Judge.{labCells, judged, routed}
-use Rattle.judge.specs.Demands.{AllHold, labNeeds, Occupied, byteOf, HoldsFirstWay}
+use Rattle.judge.specs.Judge.{labCells, occupied, judged, routed}
+use Rattle.judge.specs.Demands.{AllHold, labNeeds, byteOf, HoldsFirstWay}
 use Rattle.judge.proofs.FitCells.{lab-fit}
 use Rattle.judge.proofs.Held.{to-51-holds, lab-holds}
 use Rattle.judge.proofs.Kept.{Kept, all-kept}
@@ -91,10 +97,18 @@ module _ (t : Table) (e a before : List ℕ) (legal : judged t e a (length befor
   unfolding byteOf
   byte-slot l i = omega arith
 
-  pub legal-route : (l : ℕ) → Occupied t e a l → HoldsFirstWay t e a (routed t e a before) l
-  unfolding Occupied
+  -- an occupied LAB has a LAB's number
+  occupied-low : (l : ℕ) → occupied e a l ≡ true → l < 1024
+  unfolding occupied
+  occupied-low l o =
+      let f : ℕ → Bool = λ i. eqb (labAt a i) l in
+      let i = firstFrom f 0 (cellCount e) in
+      let some = sym (any-below f (cellCount e)) ∙ o in
+      rw (eqb-true (labAt a i) l (some-below f (cellCount e) some)) at (lab-in-range a i (kept .placed i (ltb-true i (cellCount e) some)))
+
+  pub legal-route : (l : ℕ) → occupied e a l ≡ true → HoldsFirstWay t e a (routed t e a before) l
   legal-route l o =
-      let g = lab-held l (rw (o .2) at (lab-in-range a (o .0) (kept .placed (o .0) (o .1)))) in
+      let g = lab-held l (occupied-low l o) in
       let held = slot-held (labNeeds t e a l) (g .w) (g .is-way .as-long) (g .fits) in
       record {
         w = g .w;

@@ -8,14 +8,12 @@ use mathlib.Core.List.{List, [], _∷_, _++_}
 use lib.ListN.{length, getD, take}
 use lib.Dec.{eqb}
 use Rattle.sheet.specs.Lists.{filterb, elemb}
-use Rattle.sheet.specs.Exercise.{cellCount}
 use Rattle.route.specs.declared.Need.{Need}
 use Rattle.route.specs.Table.{Table, needAt}
 use Rattle.route.specs.Way.{Way, Earlier}
 use Rattle.lab.specs.Rules.{needs, labRules}
-use Rattle.placing.specs.Places.{labAt}
 use Rattle.judge.specs.declared.Verdict.{Verdict}
-use Rattle.judge.specs.Judge.{Check, checks, checksTo51, ofLab, labCells, apprenticeOf, judged, routed, verdictOf}
+use Rattle.judge.specs.Judge.{Check, checks, checksTo51, ofLab, labCells, occupied, apprenticeOf, judged, routed, verdictOf}
 
 -- the numbers of document 01's table that a judgement can give
 abbrev pub numbers : List ℕ
@@ -64,10 +62,6 @@ module _ (t : Table) where
     unfoldable pub Keeps65 : ℕ → Type 0
     Keeps65 l = (w : List ℕ) × Way t (labNeeds l) w
 
-    -- "an occupied LAB is one where the answer sheet puts at least one cell"
-    unfoldable pub Occupied : ℕ → Type 0
-    Occupied l = (i : ℕ) × (i < cellCount e) × (labAt a i ≡ l)
-
     -- "refusal 65 names a LAB exactly when four things are true"
     pub record FourThings (r l : ℕ) : Type 0 where
       pub to-51-hold : AllHold (checksTo51 e a r)
@@ -92,6 +86,6 @@ module _ (t : Table) where
   pub record Demand3 : Type 0 where
     pub refusal-65 : (e a : List ℕ) (r l : ℕ) → ((judged t e a r .number ≡ 65) × (judged t e a r .lab ≡ l)) ↔ FourThings e a r l
     pub legal-route : (e a before : List ℕ) → judged t e a (length before) .number ≡ 0
-        → (l : ℕ) → Occupied e a l → HoldsFirstWay e a (routed t e a before) l
+        → (l : ℕ) → occupied e a l ≡ true → HoldsFirstWay e a (routed t e a before) l
     pub no-need-255 : (e a before : List ℕ) → judged t e a (length before) .number ≡ 0
         → (b : ℕ) → b < 8192 → ((l i : ℕ) → i < length (labNeeds e a l) → byteOf e a l i ≡ b → ⊥) → getD (routed t e a before) b 0 ≡ 255

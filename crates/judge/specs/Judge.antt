@@ -70,6 +70,10 @@ carryNotNext e a i = standsApart e a i (cell e i)
 unfoldable pub labCells : List ℕ → List ℕ → ℕ → List Record
 labCells e a l = map (cell e) (members a (cellCount e) l)
 
+-- "an occupied LAB is one where the answer sheet puts at least one cell"
+unfoldable pub occupied : List ℕ → List ℕ → ℕ → Bool
+occupied e a l = anyb (λ i. eqb (labAt a i) l) (cellNumbers e)
+
 -- ---- the order of checking, in the groups of document 01's table
 
 -- 1
