@@ -16,8 +16,7 @@ use Rattle.sheet.specs.declared.Record.{Record}
 use Rattle.sheet.specs.declared.Record.the-variants.{Combinational, Register, Malformed}
 use Rattle.sheet.proofs.Laws.{by-test}
 use Rattle.route.specs.Table.{Table}
-use Rattle.route.specs.Search.{searchFrom}
-use Rattle.route.specs.Route.{firstWay}
+use Rattle.route.specs.Way.{isWay, entryLists, ways, earliestWay}
 use Rattle.lab.specs.Ports.{inLab, netsIn}
 use Rattle.lab.specs.Rules.{tooManyClocks, tooManyPairs, tooManyClears, tooManySynchronous, tooManyNets, needs, noWay, labChecks}
 use Rattle.netlist.specs.Cells.{cell, cellNumbers, malformed, doubleDriver, checksOf, cellChecks}
@@ -94,7 +93,7 @@ lowest-low a n l = ⊎-elim (λ q. inl q) (λ m. inr (omega arith)) (first-low (
 
 -- a LAB with no cells breaks no rule
 empty-holds : (t : Table) (l : ℕ) → firstBroken (ofLab l (labChecks t [])) ≡ legal
-unfolding tooManyClocks tooManyPairs tooManyClears tooManySynchronous tooManyNets noWay needs netsIn inLab firstWay searchFrom
+unfolding tooManyClocks tooManyPairs tooManyClears tooManySynchronous tooManyNets noWay needs netsIn inLab earliestWay ways entryLists isWay
 empty-holds t l = refl
 
 -- ---- the groups of checks

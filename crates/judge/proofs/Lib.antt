@@ -6,7 +6,6 @@ pub mod Sound
 pub mod LabsFound
 pub mod FitCells
 pub mod Held
-pub mod EightBytes
 pub mod Refusal65
 pub mod Kept
 pub mod RouteHeld

@@ -4,7 +4,6 @@ use mathlib.Core.Path.{_≡_, refl, sym, ap, _∙_}
 use mathlib.Core.Logic.{_↔_, ⊎-elim}
 use mathlib.Core.Bool.{Bool, true, false, cond, not, true≢false}
 use mathlib.Core.List.{List, [], _∷_, _++_}
-use mathlib.Core.Option.{Option, none, some}
 use native.Mathlib.Nat.{eq-or-lt-of-le}
 use native.Mathlib.Decide.{decLt}
 use native.Mathlib.Omega.{arith}
@@ -17,10 +16,10 @@ use Rattle.sheet.specs.declared.Record.{Record}
 use Rattle.sheet.proofs.Laws.{by-test}
 use Rattle.route.specs.Table.{Table}
 use Rattle.route.specs.Way.{Way}
-use Rattle.route.specs.Route.{firstWay}
-use Rattle.route.proofs.Ways.{first-way-none, first-way-some, first-way-found, no-needs}
+use Rattle.route.proofs.AllWays.{earliest-some, no-needs}
 use Rattle.lab.specs.Ports.{inLab}
-use Rattle.lab.specs.Rules.{needs, isNone, noWay, labRules, labChecks}
+use Rattle.lab.specs.Rules.{needs, noWay, labRules, labChecks}
+use Rattle.lab.proofs.Routes.{stuck, goes}
 use Rattle.placing.specs.Places.{labAt, outOfRangeAt}
 use Rattle.labs.specs.Members.{members}
 use Rattle.netlist.specs.Tables.{NONE}
@@ -31,27 +30,6 @@ use Rattle.judge.proofs.Broken.{Every, Numbered, NumberedIn, found, ski
 use Rattle.sheet.proofs.First.{before-first, first-is}
 use Rattle.judge.proofs.Numbers.{Known, To51, every-weaker, known-numbered, rules-known, lab-numbered, to-51-known}
 use Rattle.placing.proofs.Places.{lab-in-range}
-
--- ---- 65 is broken exactly where there is no way
-is-none : (o : Option (List ℕ)) → isNone o ≡ true → o ≡ none
-is-none none q = refl
-is-none (some w) q = absurd (true≢false (sym q))
-
-is-some : (o : Option (List ℕ)) → isNone o ≡ false → (w : List ℕ) × (o ≡ some w)
-is-some none q = absurd (true≢false q)
-is-some (some w) q = (w, refl)
-
-module _ (t : Table) (cs : List Record) where
-  stuck : (noWay t cs ≡ true) ↔ ((w : List ℕ) → Way t (needs cs) w → ⊥)
-  unfolding noWay
-  stuck = (λ q. first-way-none t (needs cs) .0 (is-none (firstWay t (needs cs)) q), λ h. ap isNone (first-way-none t (needs cs) .1 h))
-
-  goes : (noWay t cs ≡ false) ↔ ((w : List ℕ) × Way t (needs cs) w)
-  unfolding noWay
-  goes = (
-    λ q. let s = is-some (firstWay t (needs cs)) q in (s .0, first-way-some t (needs cs) (s .0) (s .1) .0),
-    λ p. ap isNone (first-way-found t (needs cs) (p .0) (p .1) .1),
-  )
 
 -- ---- the number of one LAB: 65 where its rules hold and 65 does not, 0 where all hold
 differs : (n : ℕ) (b : Bool) → Known 60 64 n → n ≡ cond b 65 0 → ⊥
@@ -133,7 +111,7 @@ module _ (t : Table) (e a : List ℕ) (r l : ℕ) where
   on-board : FourThings t e a r l → l < 1024
   unfolding labNeeds needs inLab
   on-board f =
-      let alone : 1024 ≤ l → Way t (labNeeds t e a l) [] = λ h. rw (nobody e a r l (f .to-51-hold) h) (first-way-some t [] [] (no-needs t) .0) in
+      let alone : 1024 ≤ l → Way t (labNeeds t e a l) [] = λ h. rw (nobody e a r l (f .to-51-hold) h) (earliest-some t [] [] (no-needs t) .0) in
       elim (decLt l 1024) [ yes h ↦ h | no h ↦ absurd (f .has-no-way [] (alone (omega arith))) ]
 
   abbrev cells : ℕ → List Record

@@ -5,12 +5,12 @@ use mathlib.Core.Path.{_≡_}
 use mathlib.Core.Logic.{_↔_, _⊎_}
 use mathlib.Core.Bool.{Bool, true, false}
 use mathlib.Core.List.{List, [], _∷_, _++_}
-use lib.ListN.{length, getD, take}
-use lib.Dec.{eqb}
-use Rattle.sheet.specs.Lists.{filterb, elemb}
+use lib.ListN.{length, getD}
+use Rattle.sheet.specs.Lists.{elemb}
 use Rattle.route.specs.declared.Need.{Need}
-use Rattle.route.specs.Table.{Table, needAt}
+use Rattle.route.specs.Table.{Table}
 use Rattle.route.specs.Way.{Way, Earlier}
+use Rattle.route.specs.Route.{byteOfNeed}
 use Rattle.lab.specs.Rules.{needs, labRules}
 use Rattle.judge.specs.declared.Verdict.{Verdict}
 use Rattle.judge.specs.Judge.{Check, checks, checksTo51, ofLab, labCells, occupied, apprenticeOf, judged, routed, verdictOf}
@@ -71,9 +71,7 @@ module _ (t : Table) where
 
     -- "8 bytes per LAB at 8 × LAB number, for two clk, two ena, two aclr, sclr, sload in need order": the byte of need i of LAB l
     unfoldable pub byteOf : ℕ → ℕ → ℕ
-    byteOf l i =
-        8 * l + getD (0 ∷ 2 ∷ 4 ∷ 6 ∷ 7 ∷ []) (needAt (labNeeds l) i .role) 0
-        + length (filterb (λ n. eqb (n .role) (needAt (labNeeds l) i .role)) (take i (labNeeds l)))
+    byteOf l i = 8 * l + byteOfNeed (labNeeds l) i
 
     -- the route bytes of LAB l hold w, a way than which every other comes later
     pub record HoldsFirstWay (route : List ℕ) (l : ℕ) : Type 0 where

@@ -4,3 +4,5 @@ pub mod Needed
 pub mod Result
 pub mod Fewer
 pub mod Settled
+pub mod Routes
+pub mod Order

@@ -14,7 +14,8 @@ use Rattle.distinct.specs.Rising.{rising}
 use Rattle.distinct.proofs.Codes.{more-than}
 use Rattle.route.specs.declared.Need.{Need}
 use Rattle.route.specs.Table.{Table}
-use Rattle.route.specs.Route.{firstWay, labRouteOf}
+use Rattle.route.specs.Way.{earliestWay}
+use Rattle.route.specs.Route.{labRouteOf}
 use Rattle.lab.specs.Ports.{sclr, sload, clock, clockPair, clear, inUse, inLab, netsIn}
 use Rattle.lab.specs.Rules.{tooManyClocks, tooManyPairs, tooManyClears, tooManySynchronous, tooManyNets, needs, isNone, noWay, labRules, labNumber, routeOf, labResult}
 use Rattle.lab.specs.Counts.{countsOf, brokenBy, routedResult, resultFrom, AllFit}
@@ -47,4 +48,4 @@ result-is t cs fit =
     (λ b. by-test (tooManyClears cs) (λ c. rw (a, b, c))
     (λ c. by-test (tooManySynchronous cs) (λ d. rw (a, b, c, d))
     (λ d. by-test (tooManyNets cs) (λ e. rw (a, b, c, d, e))
-    (λ e. rw (a, b, c, d, e, needs-held cs fit a b c d) (routed-is (needs cs) (firstWay t (needs cs)))))))))
+    (λ e. rw (a, b, c, d, e, needs-held cs fit a b c d) (routed-is (needs cs) (earliestWay t (needs cs)))))))))

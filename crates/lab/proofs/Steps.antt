@@ -22,7 +22,8 @@ use Rattle.route.specs.declared.Need.{Need}
 use Rattle.route.specs.declared.Needs.{Needs}
 use Rattle.route.specs.declared.LabRoute.{LabRoute}
 use Rattle.route.specs.Table.{Table, withNeed, needList, needsOf, noNeeds}
-use Rattle.route.specs.Route.{firstWay, labRouteOf}
+use Rattle.route.specs.Way.{earliestWay}
+use Rattle.route.specs.Route.{labRouteOf}
 use Rattle.route.proofs.NeedLists.{no-needs-of, list-needs, with-need}
 use Rattle.lab.specs.declared.Counts.{Counts}
 use Rattle.lab.specs.Ports.{inputs, netsAt}
@@ -129,7 +130,7 @@ pub held-of : (k : Counts) → withNeeds noNeeds (needsHeld k) ≡ needsOf (need
 held-of k = rw no-needs-of (needs-of [] (needsHeld k) (omega (arith, held-fits k)))
 
 -- where no rule of 60 to 64 is broken, the route of the needs that are held decides
-pub held-result : (t : Table) (k : Counts) (nets : ℕ) (n : Needs) {r : LabRoute} → brokenBy k nets ≡ 0 → n ≡ needsOf (needsHeld k) → r ≡ labRouteOf (needList n) (firstWay t (needList n)) → resultFrom t k nets ≡ routedResult r
+pub held-result : (t : Table) (k : Counts) (nets : ℕ) (n : Needs) {r : LabRoute} → brokenBy k nets ≡ 0 → n ≡ needsOf (needsHeld k) → r ≡ labRouteOf (needList n) (earliestWay t (needList n)) → resultFrom t k nets ≡ routedResult r
 unfolding resultFrom
 held-result t k nets n z h e =
     let route = rw (h, list-needs (needsHeld k) (held-fits k)) at e in

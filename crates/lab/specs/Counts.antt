@@ -19,7 +19,8 @@ use Rattle.route.specs.declared.Need.{Need}
 use Rattle.route.specs.declared.LabRoute.{LabRoute}
 use Rattle.route.specs.declared.Needs.{Needs}
 use Rattle.route.specs.Table.{withNeed, Table, CLK, ENA, ACLR, SCLR, SLOAD}
-use Rattle.route.specs.Route.{firstWay, labRouteOf}
+use Rattle.route.specs.Way.{earliestWay}
+use Rattle.route.specs.Route.{labRouteOf}
 use Rattle.lab.specs.declared.Counts.{Counts}
 use Rattle.lab.specs.declared.LabResult.{LabResult}
 use Rattle.lab.specs.Ports.{clk, ena, aclr, sclr, sload, clock, clockPair, clear, inUse, needed, ofRegister, inLab, inputs, netsAt}
@@ -106,7 +107,7 @@ routedResult r = cond (r .found) (record { number = 0; bytes = r .bytes }) (refu
 -- the result of a LAB from its counts and its number of nets
 unfoldable pub resultFrom : Table → Counts → ℕ → LabResult
 resultFrom t k nets =
-    cond (eqb (brokenBy k nets) 0) (routedResult (labRouteOf (needsHeld k) (firstWay t (needsHeld k))))
+    cond (eqb (brokenBy k nets) 0) (routedResult (labRouteOf (needsHeld k) (earliestWay t (needsHeld k))))
     (refused (brokenBy k nets))
 
 -- what 15 (at no more than 1,024 nets) and 34 say of a cell: its signals are small, and an enable has a clock

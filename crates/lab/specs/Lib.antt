@@ -1,3 +1,4 @@
 pub mod Ports
 pub mod Rules
 pub mod Counts
+pub mod Examples

@@ -13,7 +13,8 @@ use Rattle.distinct.specs.Rising.{rising, distinct}
 use Rattle.route.specs.declared.Need.{Need}
 use Rattle.route.specs.declared.LabRoute.{LabRoute}
 use Rattle.route.specs.Table.{Table, CLK, ENA, ACLR, SCLR, SLOAD}
-use Rattle.route.specs.Route.{firstWay, labRouteOf}
+use Rattle.route.specs.Way.{earliestWay}
+use Rattle.route.specs.Route.{labRouteOf}
 use Rattle.lab.specs.declared.LabResult.{LabResult}
 use Rattle.lab.specs.Ports.{clk, ena, aclr, sclr, sload, clock, clockPair, clear, inUse, needed, inLab, netsIn}
 
@@ -49,13 +50,14 @@ needsAt role port cs = needsOfRole role (rising (inLab (needed port) cs))
 unfoldable pub needs : List Record → List Need
 needs cs = needsAt CLK clk cs ++ needsAt ENA ena cs ++ needsAt ACLR aclr cs ++ needsAt SCLR sclr cs ++ needsAt SLOAD sload cs
 
--- 65: the LAB has no way. `first-way-none` of route says so of all possible ways
+-- there is none
 abbrev pub isNone : Option (List ℕ) → Bool
 isNone none = true
 isNone (some w) = false
 
+-- 65: the LAB has no way, whichever entries are tried
 unfoldable pub noWay : Table → List Record → Bool
-noWay t cs = isNone (firstWay t (needs cs))
+noWay t cs = isNone (earliestWay t (needs cs))
 
 -- 60 to 64
 abbrev pub labRules : List Record → List Check
@@ -75,9 +77,9 @@ labChecks t cs = labRules cs ++ check 65 (noWay t cs) ∷ []
 unfoldable pub labNumber : Table → List Record → ℕ
 labNumber t cs = firstNumber (labChecks t cs)
 
--- the LAB's route bytes
+-- the LAB's route bytes: "the number of the entry that the LAB's earliest way gives"
 unfoldable pub routeOf : Table → List Record → List ℕ
-routeOf t cs = labRouteOf (needs cs) (firstWay t (needs cs)) .bytes
+routeOf t cs = labRouteOf (needs cs) (earliestWay t (needs cs)) .bytes
 
 -- the lowest broken of 60 to 65, or 0 with the LAB's eight route bytes; "eight 255s otherwise"
 unfoldable pub labResult : Table → List Record → LabResult

@@ -14,7 +14,7 @@ use Rattle.sheet.specs.Bytes.{partAt}
 use Rattle.sheet.specs.Exercise.{cellCount}
 use Rattle.sheet.proofs.Laws.{by-test}
 use Rattle.route.specs.Table.{Table}
-use Rattle.route.specs.Route.{firstWay}
+use Rattle.route.specs.Way.{earliestWay}
 use Rattle.lab.specs.Rules.{needs, labChecks, labNumber, routeOf, labResult}
 use Rattle.lab.specs.declared.LabResult.{LabResult}
 use Rattle.netlist.specs.Tables.{NONE}
@@ -34,6 +34,7 @@ use Rattle.lab_list.specs.ListCheck.{listVerdict}
 use Rattle.lab_list.specs.Agreement.{ListOf, ListLaw}
 use Rattle.judge.proofs.Kept.{all-kept}
 use Rattle.lab_list.proofs.Crowd.{member-is, at-most-32}
+use Rattle.lab_list.proofs.AnyList.{same-verdict}
 use Rattle.lab_list.proofs.Sheets.{Whole, Keeping, list-of-sheet, passes-18}
 
 -- ---- rows of eight bytes
@@ -66,7 +67,9 @@ module _ (t : Table) (e a before : List ℕ) (l : ℕ) (cs : List CellRecord) (l
       let is = members a (cellCount e) l in
       let whole : Whole e is = λ i m. kept .whole i (member-is e a l i m .0) in
       let keeps : Keeping e is = λ i m. kept .keeps i (member-is e a l i m .0) in
-      list-of-sheet t e is cs (kept .few) whole copied (passes-18 e is cs (kept .few) whole keeps (at-most-32 e a kept l) copied)
+      let by-number = copied .0 in
+      same-verdict cs by-number (copied .1) t
+      ∙ list-of-sheet t e is by-number (kept .few) whole (copied .2) (passes-18 e is by-number (kept .few) whole keeps (at-most-32 e a kept l) (copied .2))
 
   list-number : listVerdict t cs .number ≡ labNumber t (labCells e a l)
   unfolding labResult
@@ -100,7 +103,7 @@ module _ (t : Table) (e a before : List ℕ) (l : ℕ) (cs : List CellRecord) (l
       let bytes : listVerdict t cs .bytes ≡ routeOf t (labCells e a l) = ap (λ (r : LabResult). r .bytes) lab-result ∙ rw n in (
         list-number ∙ n,
         rw (written t e a before z, bytes)
-            (row-part (λ j. routeOf t (labCells e a j)) (λ j. route-eight (needs (labCells e a j)) (firstWay t (needs (labCells e a j)))) 1024 l low),
+            (row-part (λ j. routeOf t (labCells e a j)) (λ j. route-eight (needs (labCells e a j)) (earliestWay t (needs (labCells e a j)))) 1024 l low),
       )
 
 pub list-law : ListLaw

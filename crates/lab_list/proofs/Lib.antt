@@ -2,4 +2,5 @@ pub mod Crowd
 pub mod Sheets
 pub mod Agrees
 pub mod Taken
+pub mod AnyList
 pub mod Walk

@@ -16,8 +16,8 @@ use Rattle.sheet.specs.declared.Record.the-variants.{Register}
 use Rattle.sheet.proofs.Laws.{by-test, or-parts}
 use Rattle.distinct.specs.Nets.{markAll, readMarks}
 use Rattle.route.specs.Table.{Table}
-use Rattle.route.specs.Search.{searchFrom}
-use Rattle.route.specs.Route.{firstWay, eightBytes, labRouteOf}
+use Rattle.route.specs.Way.{isWay, entryLists, ways, earliestWay}
+use Rattle.route.specs.Route.{eightBytes, labRouteOf}
 use Rattle.lab.specs.Ports.{inLab, netsIn}
 use Rattle.lab.specs.Rules.{tooManyClocks, tooManyPairs, tooManyClears, tooManySynchronous, tooManyNets, needs, noWay, routeOf, labNumber, labResult}
 use Rattle.lab.specs.Counts.{noCounts, countsAll, markCells, refused, resultFrom, Fit, AllFit}
@@ -92,7 +92,7 @@ list-refused t cs h = rw h
 
 -- the empty list has 0 and eight 255s
 pub empty-list : (t : Table) → listVerdict t [] ≡ record { number = 0; bytes = replicate 8 255 }
-unfolding listVerdict listNumber noList tooManyClocks tooManyPairs tooManyClears tooManySynchronous tooManyNets noWay needs routeOf netsIn inLab firstWay searchFrom labRouteOf eightBytes
+unfolding listVerdict listNumber noList tooManyClocks tooManyPairs tooManyClears tooManySynchronous tooManyNets noWay needs routeOf netsIn inLab earliestWay ways entryLists isWay labRouteOf eightBytes
 empty-list t = refl
 
 no-list-long : (cs : List CellRecord) → ltb 32 (length cs) ≡ true → noList cs ≡ true

@@ -2,7 +2,7 @@
 -- and its route bytes. `t` is the entry table, `e` the exercise, `a` the answer, `l` a LAB number, `cs` the list. Assumes nothing.
 use Prim.Native.Nat.{ℕ, _*_, _<_}
 use mathlib.Core.Path.{_≡_}
-use mathlib.Core.List.{List, [], _∷_}
+use mathlib.Core.List.{List, [], _∷_, List·Permᴰ}
 use lib.ListN.{length}
 use Rattle.sheet.specs.Bytes.{partAt}
 use Rattle.sheet.specs.Exercise.{cellCount, recordPart}
@@ -21,9 +21,9 @@ Copies e [] (c ∷ cs) = ⊥
 Copies e (i ∷ is) [] = ⊥
 Copies e (i ∷ is) (c ∷ cs) = (bytesOf c ≡ recordPart e i) × Copies e is cs
 
--- "a lent list of that LAB's cell records": the records of the cells that the answer puts into LAB l, by number
+-- "a lent list of that LAB's cell records": the records of the cells that the answer puts into LAB l, in any order
 unfoldable pub ListOf : List ℕ → List ℕ → ℕ → List CellRecord → Type 0
-ListOf e a l cs = Copies e (members a (cellCount e) l) cs
+ListOf e a l cs = (ds : List CellRecord) × List·Permᴰ cs ds × Copies e (members a (cellCount e) l) ds
 
 -- what the list check and the judge have in common
 pub record Agrees (t : Table) (e a before : List ℕ) (l : ℕ) (cs : List CellRecord) : Type 0 where

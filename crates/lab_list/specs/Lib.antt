@@ -1,2 +1,3 @@
 pub mod ListCheck
+pub mod AnyList
 pub mod Agreement

@@ -13,7 +13,8 @@ use Rattle.sheet.proofs.Laws.{by-test}
 use Rattle.distinct.specs.Nets.{readMarks}
 use Rattle.route.specs.declared.Need.{Need}
 use Rattle.route.specs.Table.{Table}
-use Rattle.route.specs.Route.{firstWay, eightBytes, labRouteOf}
+use Rattle.route.specs.Way.{earliestWay}
+use Rattle.route.specs.Route.{eightBytes, labRouteOf}
 use Rattle.lab.specs.Counts.{noCounts, countsAll, markCells, brokenBy, needsHeld, routedResult, resultFrom}
 use Rattle.lab.specs.declared.Counts.{Counts}
 use Rattle.labs.specs.Results.{resultOf, putRow, putRows}
@@ -101,7 +102,7 @@ routed-eight ns (some w) = refl
 
 from-eight : (t : Table) (k : Counts) (nets : ℕ) → length (resultFrom t k nets .bytes) ≡ 8
 unfolding resultFrom
-from-eight t k nets = by-test (eqb (brokenBy k nets) 0) (λ e. rw e (routed-eight (needsHeld k) (firstWay t (needsHeld k)))) (λ e. rw e)
+from-eight t k nets = by-test (eqb (brokenBy k nets) 0) (λ e. rw e (routed-eight (needsHeld k) (earliestWay t (needsHeld k)))) (λ e. rw e)
 
 pub bytes-eight : (t : Table) (get : ℕ → Record) (is : List ℕ) → length (resultOf t get is .bytes) ≡ 8
 unfolding resultOf

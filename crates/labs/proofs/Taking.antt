@@ -12,7 +12,7 @@ use Rattle.distinct.specs.Nets.{markAll, readMarks}
 use Rattle.distinct.specs.UpToTwo.{codesOf}
 use Rattle.route.specs.Table.{Table}
 use Rattle.route.specs.Route.{eightBytes, labRouteOf}
-use Rattle.route.proofs.Ways.{no-needs}
+use Rattle.route.proofs.AllWays.{no-needs}
 use Rattle.lab.specs.Counts.{noCounts, countsWith, countsAll, usesOf, markCells, brokenBy, onlyCode, needsHeld, resultFrom}
 use Rattle.lab.specs.declared.Counts.{Counts}
 use Rattle.lab.specs.declared.LabResult.{LabResult}

@@ -14,8 +14,10 @@ use Rattle.route.specs.declared.Need.{Need}
 use Rattle.route.specs.declared.Routed.{Routed}
 use Rattle.route.specs.declared.LabRoute.{LabRoute}
 use Rattle.route.specs.Table.{Table, needAt, noNeed}
-use Rattle.route.specs.Route.{entriesFor, eightBytes, firstWay, routedOf, labRouteOf}
-use Rattle.route.proofs.Ways.{first-way-some, no-needs}
+use Rattle.route.specs.Way.{earliestWay}
+use Rattle.route.specs.Route.{entriesFor, eightBytes, labRouteOf}
+use Rattle.route.specs.Partial.{routedOf}
+use Rattle.route.proofs.AllWays.{earliest-some, no-needs}
 
 -- the entries of the role's needs from need i on
 abbrev pub onFrom : ℕ → List Need → List ℕ → ℕ → List ℕ
@@ -57,7 +59,7 @@ bytes-pad ns w pad h =
     rw (entries-pad 0 ns w pad h, entries-pad 1 ns w pad h, entries-pad 2 ns w pad h, entries-pad 3 ns w pad h, entries-pad 4 ns w pad h) refl
 
 -- the answers of `lab_route`: no needs, no way, a way
-pub lab-no-needs : (t : Table) → _≡_ {A = LabRoute} (record { found = true; bytes = replicate 8 255 }) (labRouteOf [] (firstWay t []))
+pub lab-no-needs : (t : Table) → _≡_ {A = LabRoute} (record { found = true; bytes = replicate 8 255 }) (labRouteOf [] (earliestWay t []))
 unfolding labRouteOf eightBytes
 lab-no-needs t = rw (no-needs t) refl
 
@@ -73,6 +75,6 @@ unfolding labRouteOf routedOf
 lab-found ns none way h q f = absurd (true≢false (sym f ∙ ap (λ (x : Routed). x .found) q))
 lab-found ns (some w) way h q f = rw (q, bytes-pad ns w _ (h w refl)) refl
 
-pub lab-way : (t : Table) (ns : List Need) (way : Routed) → way ≡ routedOf (firstWay t ns) → way .found ≡ true
-    → _≡_ {A = LabRoute} (record { found = true; bytes = eightBytes ns (way .entries) }) (labRouteOf ns (firstWay t ns))
-lab-way t ns way q f = lab-found ns (firstWay t ns) way (λ w p. first-way-some t ns w p .0 .as-long) q f
+pub lab-way : (t : Table) (ns : List Need) (way : Routed) → way ≡ routedOf (earliestWay t ns) → way .found ≡ true
+    → _≡_ {A = LabRoute} (record { found = true; bytes = eightBytes ns (way .entries) }) (labRouteOf ns (earliestWay t ns))
+lab-way t ns way q f = lab-found ns (earliestWay t ns) way (λ w p. earliest-some t ns w p .0 .as-long) q f

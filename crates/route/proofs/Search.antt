@@ -45,7 +45,7 @@ module _ (P : List ℕ → Type 0) where
   first-same Q f g (some w) h = (f w (h .0), λ v q. h .1 v (g v q))
 
 -- ---- `pick` finds the first of the lists that begin with an entry from lo up to hi that is ok, and go on as R says
-abbrev Begun : (ℕ → Bool) → (ℕ → List ℕ → Type 0) → ℕ → ℕ → List ℕ → Type 0
+abbrev pub Begun : (ℕ → Bool) → (ℕ → List ℕ → Type 0) → ℕ → ℕ → List ℕ → Type 0
 Begun ok R lo hi [] = ⊥
 Begun ok R lo hi (e ∷ w) = (lo ≤ e) × (e < hi) × (ok e ≡ true) × R e w
 
@@ -76,7 +76,7 @@ module _ (ok : ℕ → Bool) (R : ℕ → List ℕ → Type 0) (e hi : ℕ) wher
           (λ p. inr (inl p))
           (eq-or-lt-of-le (b .0))
 
-pick-first : (ok : ℕ → Bool) (rest : ℕ → Option (List ℕ)) (R : ℕ → List ℕ → Type 0) → ((e : ℕ) → First (R e) (rest e)) → (k e hi : ℕ) → e + k ≡ hi
+pub pick-first : (ok : ℕ → Bool) (rest : ℕ → Option (List ℕ)) (R : ℕ → List ℕ → Type 0) → ((e : ℕ) → First (R e) (rest e)) → (k e hi : ℕ) → e + k ≡ hi
     → First (Begun ok R e hi) (pick ok rest k e)
 unfolding pick First
 pick-first ok rest R h zero e hi q = none-left

@@ -1,5 +1,5 @@
--- The first way is a way that is earlier than every other, and there is none exactly where no list is a way. The lists that the search may give from some
--- taken entries on are the ways that have none of them. Assumes nothing.
+-- What the search finds is the first of the ways. The lists that it may give from some taken entries on are the ways that have none of them.
+-- Fewer needs don't lose their way. Assumes nothing.
 use Prim.Native.Nat.{ℕ, zero, suc, _<_}
 use mathlib.Core.Path.{_≡_, refl, sym, ap, _∙_}
 use mathlib.Core.Logic.{_⊎_, _↔_}
@@ -13,9 +13,8 @@ use lib.Seq.{getD-set-same, getD-set-other}
 use Rattle.route.specs.declared.Need.{Need}
 use Rattle.route.specs.Table.{Table, serves, needAt}
 use Rattle.route.specs.Way.{Way, Earlier}
-use Rattle.route.specs.Search.{searchFrom}
-use Rattle.route.specs.Route.{mayHave, takenBy, firstWay}
-use Rattle.route.proofs.Search.{First, Given, first-none, first-some, first-found, first-same, search-first}
+use Rattle.route.specs.Search.{mayHave, takenBy, foundWay}
+use Rattle.route.proofs.Search.{First, Given, first-same, search-first}
 
 -- ---- one entry
 free-of : (b x : Bool) → b && not x ≡ true → (b ≡ true) × (x ≡ false)
@@ -24,7 +23,7 @@ free-of true false q = (refl, refl)
 free-of false x q = absurd (true≢false (sym q))
 
 -- what the table does not hold serves no role
-served-low : (t : Table) (e r : ℕ) → serves t e r ≡ true → e < length t
+pub served-low : (t : Table) (e r : ℕ) → serves t e r ≡ true → e < length t
 served-low [] e r q = absurd (true≢false (sym q))
 served-low (x ∷ t) zero r q = omega arith
 served-low (x ∷ t) (suc e) r q = let h = served-low t e r q in omega arith
@@ -115,25 +114,11 @@ module _ (t : Table) where
       way-given t ns (none-taken t) w p (λ i h. getD-replicate (length t) (getD w i 0) false true
       (served-low t (getD w i 0) (needAt ns i .role) (p .serving i (let k = p .as-long in omega arith))))
 
-  -- ---- the laws
-  first-way : (ns : List Need) → First (Way t ns) (firstWay t ns)
-  unfolding firstWay
+  pub first-way : (ns : List Need) → First (Way t ns) (foundWay t ns)
+  unfolding foundWay
   first-way ns =
-      first-same (GivenFrom t (none-taken t) ns) (Way t ns) (λ w b. given-way t ns (none-taken t) w b .0) (from-start ns) (firstWay t ns)
+      first-same (GivenFrom t (none-taken t) ns) (Way t ns) (λ w b. given-way t ns (none-taken t) w b .0) (from-start ns) (foundWay t ns)
       (search-first (mayHave t) takenBy (length t) (none-taken t) ns)
-
-  pub first-way-none : (ns : List Need) → (firstWay t ns ≡ none) ↔ ((w : List ℕ) → Way t ns w → ⊥)
-  first-way-none ns = first-none (Way t ns) (firstWay t ns) (first-way ns)
-
-  pub first-way-some : (ns : List Need) (w : List ℕ) → firstWay t ns ≡ some w → Way t ns w × ((v : List ℕ) → Way t ns v → (v ≡ w) ⊎ Earlier w v)
-  first-way-some ns w q = first-some (Way t ns) (firstWay t ns) w (first-way ns) q
-
-  pub first-way-found : (ns : List Need) (w : List ℕ) → Way t ns w → (v : List ℕ) × (firstWay t ns ≡ some v)
-  first-way-found ns w p = first-found (Way t ns) (firstWay t ns) (first-way ns) w p
-
-  pub no-needs : firstWay t [] ≡ some []
-  unfolding firstWay searchFrom
-  no-needs = refl
 
   -- fewer needs: the entries of those that stay
   given-part : {ms ns : List Need} → Sublistᴰ ms ns → (taken fewer : List Bool) → ((x : ℕ) → Free taken x → Free fewer x) → (w : List ℕ)

@@ -10,10 +10,10 @@ use lib.ListN.{length, set, take, drop, replicate, length-take, length-replicate
 use lib.Seq.{slice, sets, sets-eq, set-comm, take-all}
 use Rattle.route.specs.declared.Need.{Need}
 use Rattle.route.specs.Table.{Table}
-use Rattle.route.specs.Search.{searchFrom}
-use Rattle.route.specs.Route.{mayHave, takenBy, firstWay, routedOf}
-use Rattle.route.specs.Partial.{put, routedFrom}
-use Rattle.route.proofs.Ways.{first-way-some}
+use Rattle.route.specs.Way.{earliestWay}
+use Rattle.route.specs.Search.{searchFrom, mayHave, takenBy, foundWay}
+use Rattle.route.specs.Partial.{put, routedFrom, routedOf}
+use Rattle.route.proofs.AllWays.{found-earliest, earliest-some}
 
 sets-set : (l : List ℕ) (i j a : ℕ) (w : List ℕ) → i < j → sets (set l i a) j w ≡ set (sets l j w) i a
 sets-set l i j a [] h = refl
@@ -42,15 +42,16 @@ from-first (some w) h = rw (put-front w 8 255 (h w refl)) refl
 
 module _ (t : Table) (needs : List Need) (n count : ℕ) (rows : length t ≡ 6) (eight : length needs ≡ 8) where
   pub whole : take n needs ≡ take count needs
-      → routedFrom 0 (searchFrom (mayHave t) takenBy 6 (replicate 6 false) (slice 0 n needs)) ≡ routedOf (firstWay t (take count needs))
-  unfolding firstWay
+      → routedFrom 0 (searchFrom (mayHave t) takenBy 6 (replicate 6 false) (slice 0 n needs)) ≡ routedOf (earliestWay t (take count needs))
+  unfolding foundWay
   whole same =
       ap (λ (size : ℕ). routedFrom 0 (searchFrom (mayHave t) takenBy size (replicate size false) (take n needs))) (sym rows)
-      ∙ ap (λ (ns : List Need). routedFrom 0 (firstWay t ns)) same
-      ∙ from-first (firstWay t (take count needs)) short
+      ∙ ap (λ (ns : List Need). routedFrom 0 (foundWay t ns)) same
+      ∙ ap (routedFrom 0) (found-earliest t (take count needs))
+      ∙ from-first (earliestWay t (take count needs)) short
     where
-      short : (w : List ℕ) → firstWay t (take count needs) ≡ some w → length w ≤ 8
-      short w q = omega (arith, first-way-some t (take count needs) w q .0 .as-long, length-take count needs)
+      short : (w : List ℕ) → earliestWay t (take count needs) ≡ some w → length w ≤ 8
+      short w q = omega (arith, earliest-some t (take count needs) w q .0 .as-long, length-take count needs)
 
 pub all-eight : (needs : List Need) (count : ℕ) → length needs ≡ 8 → 8 ≤ count → take 8 needs ≡ take count needs
 all-eight needs count l h = take-all 8 needs (omega arith) ∙ sym (take-all count needs (omega arith))

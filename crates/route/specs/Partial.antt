@@ -1,9 +1,9 @@
--- What the search answers part of the way: the entries of the needs from some index on. Assumes nothing.
-use Prim.Native.Nat.{ℕ, suc}
+-- What the search answers: the entries of the needs from some index on, and of all needs. Assumes nothing.
+use Prim.Native.Nat.{ℕ, suc, _-_}
 use mathlib.Core.Bool.{true, false}
-use mathlib.Core.List.{List, [], _∷_}
+use mathlib.Core.List.{List, [], _∷_, _++_}
 use mathlib.Core.Option.{Option, none, some}
-use lib.ListN.{set, replicate}
+use lib.ListN.{length, set, replicate}
 use Rattle.route.specs.declared.Routed.{Routed}
 
 -- w stored from index i on
@@ -15,3 +15,8 @@ put l i (e ∷ w) = set (put l (suc i) w) i e
 unfoldable pub routedFrom : ℕ → Option (List ℕ) → Routed
 routedFrom at none = record { found = false; entries = replicate 8 255 }
 routedFrom at (some w) = record { found = true; entries = put (replicate 8 255) at w }
+
+-- the entries of the way, in the order of the needs, and 255 past them; eight times 255 where there is none
+unfoldable pub routedOf : Option (List ℕ) → Routed
+routedOf none = record { found = false; entries = replicate 8 255 }
+routedOf (some w) = record { found = true; entries = w ++ replicate (8 - length w) 255 }

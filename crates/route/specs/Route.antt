@@ -1,35 +1,17 @@
--- Document 01, "Control entries": the first way, and the eight route bytes of a LAB. The entry table is a parameter throughout.
--- Assumes nothing.
-use Prim.Native.Nat.{ℕ, suc, _-_}
-use mathlib.Core.Bool.{Bool, true, false, cond, not, _&&_}
-use mathlib.Core.List.{List, [], _∷_, _++_}
+-- Document 01, "Route buffer when legal": the eight route bytes of a LAB, from its needs and a way. Assumes nothing.
+use Prim.Native.Nat.{ℕ, _+_, _<_}
+use mathlib.Core.Path.{_≡_}
+use mathlib.Core.Logic.{_⊎_}
+use mathlib.Core.Bool.{true, false, cond}
+use mathlib.Core.List.{List, [], _∷_}
 use mathlib.Core.Option.{Option, none, some}
 use lib.Dec.{eqb}
-use lib.ListN.{length, getD, set, replicate}
+use lib.ListN.{length, getD, take, replicate}
+use Rattle.sheet.specs.Lists.{filterb}
 use Rattle.route.specs.declared.Need.{Need}
-use Rattle.route.specs.declared.Routed.{Routed}
 use Rattle.route.specs.declared.LabRoute.{LabRoute}
-use Rattle.route.specs.Table.{Table, serves, CLK, ENA, ACLR, SCLR, SLOAD}
-use Rattle.route.specs.Search.{searchFrom}
-
--- the need may have entry e: it serves the role and no need has it yet. `taken` says of each entry whether one has
-abbrev pub mayHave : Table → List Bool → Need → ℕ → Bool
-mayHave t taken n e = serves t e (n .role) && not (getD taken e true)
-
--- after the need has entry e
-abbrev pub takenBy : List Bool → Need → ℕ → List Bool
-takenBy taken n e = set taken e true
-
--- the earliest way, or none where there is no way
-unfoldable pub firstWay : Table → List Need → Option (List ℕ)
-firstWay t ns = searchFrom (mayHave t) takenBy (length t) (replicate (length t) false) ns
-
--- the entries of the way, in the order of the needs, and 255 past them; eight times 255 where there is none
-unfoldable pub routedOf : Option (List ℕ) → Routed
-routedOf none = record { found = false; entries = replicate 8 255 }
-routedOf (some w) = record { found = true; entries = w ++ replicate (8 - length w) 255 }
-
--- ---- the route bytes of a LAB
+use Rattle.route.specs.Table.{Table, needAt, CLK, ENA, ACLR, SCLR, SLOAD}
+use Rattle.route.specs.Way.{Way, Earlier}
 
 -- the entries that w gives to the needs of role r, in need order
 abbrev pub entriesFor : ℕ → List Need → List ℕ → List ℕ
@@ -58,3 +40,25 @@ eightBytes ns w =
 unfoldable pub labRouteOf : List Need → Option (List ℕ) → LabRoute
 labRouteOf ns none = record { found = false; bytes = replicate 8 255 }
 labRouteOf ns (some w) = record { found = true; bytes = eightBytes ns w }
+
+-- ---- where each need's byte stands
+
+-- the first byte of a role: "two clk, two ena, two aclr, sclr, sload"
+abbrev pub firstByte : ℕ → ℕ
+firstByte role = getD (0 ∷ 2 ∷ 4 ∷ 6 ∷ 7 ∷ []) role 0
+
+-- how many needs have the role
+abbrev pub needsWith : ℕ → List Need → ℕ
+needsWith role ns = length (filterb (λ n. eqb (n .role) role) ns)
+
+-- the byte of need i among the LAB's eight: behind those of the earlier needs of its role
+abbrev pub byteOfNeed : List Need → ℕ → ℕ
+byteOfNeed ns i = firstByte (needAt ns i .role) + needsWith (needAt ns i .role) (take i ns)
+
+-- eight bytes hold the earliest way: at the byte of each need the entry that it has, and 255 at a byte of no need
+pub record HoldsEarliest (t : Table) (ns : List Need) (bytes : List ℕ) : Type 0 where
+  pub w : List ℕ
+  pub is-way : Way t ns w
+  pub others-later : (v : List ℕ) → Way t ns v → (v ≡ w) ⊎ Earlier w v
+  pub held : (i : ℕ) → i < length ns → (byteOfNeed ns i < 8) × (getD bytes (byteOfNeed ns i) 0 ≡ getD w i 0)
+  pub no-need-255 : (b : ℕ) → b < 8 → ((i : ℕ) → i < length ns → byteOfNeed ns i ≡ b → ⊥) → getD bytes b 0 ≡ 255

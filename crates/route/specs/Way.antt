@@ -1,10 +1,13 @@
--- Document 01, "Control entries": what a way is, and which of two ways comes first. Assumes nothing.
-use Prim.Native.Nat.{ℕ, _<_}
+-- Document 01, "Control entries": what a way is, which of two ways comes first, and all ways of a list of needs. Nothing here speaks of
+-- a search. Assumes nothing.
+use Prim.Native.Nat.{ℕ, zero, suc, _<_}
 use mathlib.Core.Path.{_≡_}
 use mathlib.Core.Logic.{_⊎_}
-use mathlib.Core.Bool.{Bool, true}
-use mathlib.Core.List.{List, [], _∷_}
+use mathlib.Core.Bool.{Bool, true, false, not, _&&_}
+use mathlib.Core.List.{List, [], _∷_, map}
+use mathlib.Core.Option.{Option, none, some}
 use lib.ListN.{length, getD}
+use Rattle.sheet.specs.Lists.{concatMap, filterb, below, elemb}
 use Rattle.route.specs.declared.Need.{Need}
 use Rattle.route.specs.Table.{Table, serves, needAt}
 
@@ -19,3 +22,31 @@ unfoldable pub Earlier : List ℕ → List ℕ → Type 0
 Earlier [] w = ⊥
 Earlier (a ∷ v) [] = ⊥
 Earlier (a ∷ v) (b ∷ w) = (a < b) ⊎ ((a ≡ b) × Earlier v w)
+
+-- ---- all ways, each tested by itself
+
+-- whether a list of entries is a way: each entry serves its need's role and is given to no later need
+unfoldable pub isWay : Table → List Need → List ℕ → Bool
+isWay t [] [] = true
+isWay t [] (e ∷ w) = false
+isWay t (n ∷ ns) [] = false
+isWay t (n ∷ ns) (e ∷ w) = serves t e (n .role) && not (elemb e w) && isWay t ns w
+
+-- all lists of k entries below `size`; one with a smaller entry where two first differ stands before the other
+unfoldable pub entryLists : ℕ → ℕ → List (List ℕ)
+entryLists size zero = [] ∷ []
+entryLists size (suc k) = concatMap (λ e. map (λ w. e ∷ w) (entryLists size k)) (below size)
+
+-- ALL WAYS, EARLIEST FIRST: of all lists with an entry for each need, those that are ways
+unfoldable pub ways : Table → List Need → List (List ℕ)
+ways t ns = filterb (isWay t ns) (entryLists (length t) (length ns))
+
+module _ {A : Type 0} where
+  -- the first of a list, or none where it is empty
+  abbrev pub firstOf : List A → Option A
+  firstOf [] = none
+  firstOf (x ∷ xs) = some x
+
+-- the earliest of all ways, or none where there is no way
+unfoldable pub earliestWay : Table → List Need → Option (List ℕ)
+earliestWay t ns = firstOf (ways t ns)

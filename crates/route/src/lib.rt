@@ -6,9 +6,10 @@ ghost use Prim.Native.Nat.{_+_, _≤_, _<_};
 ghost use lib.ListN.{length, take, set, replicate, getD};
 ghost use lib.Seq.{slice};
 ghost use Rattle.route.specs.Table.{houseBoard, needList, noNeeds, withNeed};
-ghost use Rattle.route.specs.Search.{searchFrom};
-ghost use Rattle.route.specs.Route.{mayHave, takenBy, firstWay, routedOf, byteFor, eightBytes, labRouteOf};
-ghost use Rattle.route.specs.Partial.{routedFrom};
+ghost use Rattle.route.specs.Way.{earliestWay};
+ghost use Rattle.route.specs.Search.{searchFrom, mayHave, takenBy};
+ghost use Rattle.route.specs.Route.{byteFor, eightBytes, labRouteOf};
+ghost use Rattle.route.specs.Partial.{routedFrom, routedOf};
 
 // What a register asks of its LAB: an entry of this role for this signal.
 pub struct Need {
@@ -134,7 +135,7 @@ fn place(table: [[bool; 5]; 6], needs: [Need; 8], n: usize, at: usize, taken: [b
 
 // The earliest way for a LAB's needs.
 pub fn first_way(table: [[bool; 5]; 6], needs: Needs) -> Routed
-    ensures { λ r. ⌜ r ≡ routedOf (firstWay table (needList needs)) ⌝ }
+    ensures { λ r. ⌜ r ≡ routedOf (earliestWay table (needList needs)) ⌝ }
 {
     let taken = [false; 6];
     let list = needs.list;
@@ -187,7 +188,7 @@ fn eight_bytes(needs: Needs, entries: [u8; 8]) -> [u8; 8]
 
 // Whether a LAB with these needs has a way, and its eight route bytes.
 pub fn lab_route(table: [[bool; 5]; 6], needs: Needs) -> LabRoute
-    ensures { λ r. ⌜ r ≡ labRouteOf (needList needs) (firstWay table (needList needs)) ⌝ }
+    ensures { λ r. ⌜ r ≡ labRouteOf (needList needs) (earliestWay table (needList needs)) ⌝ }
 {
     let count = needs.count;
     if count == 0 {

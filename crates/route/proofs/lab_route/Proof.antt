@@ -2,7 +2,7 @@
 -- Assumes nothing.
 use borrow.Author.Needs.{needs}
 use Rattle.route.specs.Table.{needList}
-use Rattle.route.specs.Route.{firstWay}
+use Rattle.route.specs.Way.{earliestWay}
 use Rattle.route.proofs.Bytes.{lab-no-needs, lab-way, lab-no-way}
 use Rattle.route.proofs.lab_route.Statement.{statement}
 use Rattle.route.proofs.lab_route.Tie as tie
@@ -17,7 +17,7 @@ returns-3 : tie.Need-returns-3
 returns-3 c =
     let s = c .before .before .before in
     let ns = needList (s .args .needs) in
-    lab-no-way ns (firstWay (s .args .table) ns) (c .before .first-way .result) (c .before .first-way .ensures) (c .if2 .left)
+    lab-no-way ns (earliestWay (s .args .table) ns) (c .before .first-way .result) (c .before .first-way .ensures) (c .if2 .left)
 
 pub lab-route-spec : {M : Type 1} → statement M
 lab-route-spec =

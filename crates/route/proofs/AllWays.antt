@@ -1,0 +1,187 @@
+-- The earliest of all ways is a way that comes before every other, and it is what the search finds. The lists of entries stand in the order of
+-- ways, and every way is among them. Assumes nothing.
+use Prim.Native.Nat.{ℕ, zero, suc, _<_}
+use mathlib.Core.Path.{_≡_, refl, sym, ap, _∙_}
+use mathlib.Core.Logic.{_⊎_, inl, inr, ⊎-elim, _↔_}
+use mathlib.Core.Bool.{Bool, true, false, cond, not, _&&_, true≢false}
+use mathlib.Core.List.{List, [], _∷_, _++_, map}
+use mathlib.Core.Option.{Option, none, some}
+use native.Mathlib.Nat.{zero-add, not-suc-le-zero, le-of-suc-le-suc}
+use native.Mathlib.Omega.{arith}
+use lib.ListN.{length, getD}
+use lib.Dec.{eqb}
+use borrow.Author.Tests.{eq-eqb, ne-eqb, eqb-false, not-false}
+use Rattle.sheet.specs.Lists.{concatMap, filterb, from, elemb}
+use Rattle.sheet.proofs.Laws.{by-test, and-parts, or-parts}
+use Rattle.route.specs.declared.Need.{Need}
+use Rattle.route.specs.Table.{Table, serves, needAt}
+use Rattle.route.specs.Way.{Way, Earlier, isWay, entryLists, ways, firstOf, earliestWay}
+use Rattle.route.specs.Search.{attempt, pick, foundWay}
+use Rattle.route.proofs.Search.{First, Begun, first-none, first-some, first-found, first-same, pick-first}
+use Rattle.route.proofs.Ways.{served-low, first-way}
+
+-- ---- of all lists of entries, the first that passes a test
+module _ (p : List ℕ → Bool) (e : ℕ) (rest : List (List ℕ)) where
+  begun : (l : List (List ℕ))
+      → firstOf (filterb p (map (λ w. e ∷ w) l ++ rest)) ≡ attempt true (firstOf (filterb (λ w. p (e ∷ w)) l)) e (firstOf (filterb p rest))
+  begun [] = refl
+  begun (w ∷ l) = by-test (p (e ∷ w)) (λ q. rw q refl) (λ q. rw q (begun l))
+
+lists-pick : (p : List ℕ → Bool) (l : List (List ℕ)) (k e : ℕ)
+    → firstOf (filterb p (concatMap (λ x. map (λ w. x ∷ w) l) (from e k))) ≡ pick (λ _. true) (λ x. firstOf (filterb (λ w. p (x ∷ w)) l)) k e
+unfolding pick
+lists-pick p l zero e = refl
+lists-pick p l (suc k) e = begun p e (concatMap (λ x. map (λ w. x ∷ w) l) (from (suc e) k)) l ∙ rw (lists-pick p l k (suc e)) refl
+
+-- the lists of k entries below size that pass p
+abbrev Within : ℕ → ℕ → (List ℕ → Bool) → List ℕ → Type 0
+Within size zero p [] = p [] ≡ true
+Within size zero p (e ∷ w) = ⊥
+Within size (suc k) p [] = ⊥
+Within size (suc k) p (e ∷ w) = (e < size) × Within size k (λ v. p (e ∷ v)) w
+
+empty-first : (size : ℕ) (p : List ℕ → Bool) (b : Bool) → p [] ≡ b → First (Within size zero p) (firstOf (cond b ([] ∷ []) []))
+unfolding First
+empty-first size p true q = (q, only)
+  where
+    only : (v : List ℕ) → Within size zero p v → (v ≡ []) ⊎ Earlier [] v
+    only [] h = inl refl
+    only (x ∷ v) h = absurd h
+empty-first size p false q = never
+  where
+    never : (v : List ℕ) → Within size zero p v → ⊥
+    never [] h = true≢false (sym h ∙ q)
+    never (x ∷ v) h = h
+
+lists-first : (size k : ℕ) (p : List ℕ → Bool) → First (Within size k p) (firstOf (filterb p (entryLists size k)))
+unfolding entryLists
+lists-first size zero p = empty-first size p (p []) refl
+lists-first size (suc k) p =
+    first-same (Begun (λ _. true) R 0 size) (Within size (suc k) p) there back (firstOf (filterb p (entryLists size (suc k))))
+    (rw (lists-pick p (entryLists size k) size 0)
+    (pick-first (λ _. true) (λ e. firstOf (filterb (λ w. p (e ∷ w)) (entryLists size k))) R (λ e. lists-first size k (λ v. p (e ∷ v))) size 0 size (zero-add size)))
+  where
+    R : ℕ → List ℕ → Type 0
+    R e = Within size k (λ v. p (e ∷ v))
+
+    there : (v : List ℕ) → Begun (λ _. true) R 0 size v → Within size (suc k) p v
+    there [] b = absurd b
+    there (x ∷ v) b = (b .1, b .3)
+
+    back : (v : List ℕ) → Within size (suc k) p v → Begun (λ _. true) R 0 size v
+    back [] b = absurd b
+    back (x ∷ v) b = (omega arith, b .0, refl, b .1)
+
+within-parts : (size k : ℕ) (p : List ℕ → Bool) (w : List ℕ) → Within size k p w → p w ≡ true
+within-parts size zero p [] h = h
+within-parts size zero p (e ∷ w) h = absurd h
+within-parts size (suc k) p [] h = absurd h
+within-parts size (suc k) p (e ∷ w) h = within-parts size k (λ v. p (e ∷ v)) w (h .1)
+
+within-from : (size k : ℕ) (p : List ℕ → Bool) (w : List ℕ) → length w ≡ k → ((i : ℕ) → i < length w → getD w i 0 < size) → p w ≡ true → Within size k p w
+within-from size zero p [] l low h = h
+within-from size zero p (e ∷ w) l low h = absurd (omega arith)
+within-from size (suc k) p [] l low h = absurd (omega arith)
+within-from size (suc k) p (e ∷ w) l low h =
+    (low 0 (omega arith), within-from size k (λ v. p (e ∷ v)) w (omega arith) (λ i m. low (suc i) (omega arith)) h)
+
+-- ---- the test of a list says whether it is a way
+never-in : (e : ℕ) (w : List ℕ) → elemb e w ≡ false → (i : ℕ) → i < length w → e ≡ getD w i 0 → ⊥
+never-in e [] h i m = absurd (not-suc-le-zero m)
+never-in e (x ∷ w) h zero m = eqb-false e x (or-parts (eqb e x) (elemb e w) h .0)
+never-in e (x ∷ w) h (suc i) m = never-in e w (or-parts (eqb e x) (elemb e w) h .1) i (le-of-suc-le-suc m)
+
+not-in : (e : ℕ) (w : List ℕ) → ((i : ℕ) → i < length w → e ≡ getD w i 0 → ⊥) → elemb e w ≡ false
+not-in e [] h = refl
+not-in e (x ∷ w) h = rw (ne-eqb e x (h 0 (omega arith))) (not-in e w (λ i m. h (suc i) (omega arith)))
+
+module _ (t : Table) where
+  is-way : (ns : List Need) (w : List ℕ) → isWay t ns w ≡ true → Way t ns w
+  unfolding isWay
+  is-way [] [] q = record { as-long = refl; serving = λ i h. absurd (not-suc-le-zero h); its-own = λ i j l h. absurd (not-suc-le-zero h) }
+  is-way [] (e ∷ w) q = absurd (true≢false (sym q))
+  is-way (n ∷ ns) [] q = absurd (true≢false (sym q))
+  is-way (n ∷ ns) (e ∷ w) q = longer (is-way ns w (parts .1))
+    where
+      parts : (serves t e (n .role) && not (elemb e w) ≡ true) × (isWay t ns w ≡ true)
+      parts = and-parts (serves t e (n .role) && not (elemb e w)) (isWay t ns w) q
+
+      here : (serves t e (n .role) ≡ true) × (not (elemb e w) ≡ true)
+      here = and-parts (serves t e (n .role)) (not (elemb e w)) (parts .0)
+
+      free : elemb e w ≡ false
+      free = by-test (elemb e w) (λ b. absurd (true≢false (sym (here .1) ∙ ap not b))) (λ b. b)
+
+      longer : Way t ns w → Way t (n ∷ ns) (e ∷ w)
+      longer rest = record { as-long = ap suc (rest .as-long); serving = serve; its-own = apart }
+        where
+          serve : (i : ℕ) → i < length (n ∷ ns) → serves t (getD (e ∷ w) i 0) (needAt (n ∷ ns) i .role) ≡ true
+          serve zero h = here .0
+          serve (suc i) h = rest .serving i (le-of-suc-le-suc h)
+
+          apart : (i j : ℕ) → i < j → j < length (n ∷ ns) → getD (e ∷ w) i 0 ≡ getD (e ∷ w) j 0 → ⊥
+          apart i zero l h s = not-suc-le-zero l
+          apart zero (suc j) l h s = never-in e w free j (let k = rest .as-long in omega arith) s
+          apart (suc i) (suc j) l h s = rest .its-own i j (le-of-suc-le-suc l) (le-of-suc-le-suc h) s
+
+  way-is : (ns : List Need) (w : List ℕ) → Way t ns w → isWay t ns w ≡ true
+  unfolding isWay
+  way-is [] [] h = refl
+  way-is [] (e ∷ w) h = absurd (let q = h .as-long in omega arith)
+  way-is (n ∷ ns) [] h = absurd (let q = h .as-long in omega arith)
+  way-is (n ∷ ns) (e ∷ w) h = rw (h .serving 0 (omega arith), not-in e w own, way-is ns w tail)
+    where
+      own : (i : ℕ) → i < length w → e ≡ getD w i 0 → ⊥
+      own i m = h .its-own 0 (suc i) (omega arith) (let q = h .as-long in omega arith)
+
+      tail : Way t ns w
+      tail = record {
+        as-long = let q = h .as-long in omega arith;
+        serving = λ i m. h .serving (suc i) (omega arith);
+        its-own = λ i j l m. h .its-own (suc i) (suc j) (omega arith) (omega arith);
+      }
+
+-- ---- there is one first list at the most
+not-both : (v w : List ℕ) → Earlier v w → Earlier w v → ⊥
+unfolding Earlier
+not-both [] w h g = h
+not-both (a ∷ v) [] h g = h
+not-both (a ∷ v) (b ∷ w) (inl h) (inl g) = omega arith
+not-both (a ∷ v) (b ∷ w) (inl h) (inr g) = let q = g .0 in omega arith
+not-both (a ∷ v) (b ∷ w) (inr h) (inl g) = let q = h .0 in omega arith
+not-both (a ∷ v) (b ∷ w) (inr h) (inr g) = not-both v w (h .1) (g .1)
+
+one-first : (P : List ℕ → Type 0) (o q : Option (List ℕ)) → First P o → First P q → o ≡ q
+unfolding First
+one-first P none none h g = refl
+one-first P none (some w) h g = absurd (h w (g .0))
+one-first P (some v) none h g = absurd (g v (h .0))
+one-first P (some v) (some w) h g =
+    ap some (⊎-elim (λ e. e) (λ l. ⊎-elim (λ e. sym e) (λ m. absurd (not-both w v l m)) (h .1 w (g .0))) (g .1 v (h .0)))
+
+-- ---- the laws
+module _ (t : Table) (ns : List Need) where
+  earliest-first : First (Way t ns) (earliestWay t ns)
+  unfolding earliestWay ways
+  earliest-first =
+      first-same (Within (length t) (length ns) (isWay t ns)) (Way t ns) (λ w h. is-way t ns w (within-parts (length t) (length ns) (isWay t ns) w h))
+      (λ w h. within-from (length t) (length ns) (isWay t ns) w (h .as-long)
+      (λ i m. served-low t (getD w i 0) (needAt ns i .role) (h .serving i (let q = h .as-long in omega arith))) (way-is t ns w h))
+      (firstOf (filterb (isWay t ns) (entryLists (length t) (length ns)))) (lists-first (length t) (length ns) (isWay t ns))
+
+  -- THE SEARCH FINDS THE EARLIEST WAY
+  pub found-earliest : foundWay t ns ≡ earliestWay t ns
+  found-earliest = one-first (Way t ns) (foundWay t ns) (earliestWay t ns) (first-way t ns) earliest-first
+
+  pub earliest-none : (earliestWay t ns ≡ none) ↔ ((w : List ℕ) → Way t ns w → ⊥)
+  earliest-none = first-none (Way t ns) (earliestWay t ns) earliest-first
+
+  pub earliest-some : (w : List ℕ) → earliestWay t ns ≡ some w → Way t ns w × ((v : List ℕ) → Way t ns v → (v ≡ w) ⊎ Earlier w v)
+  earliest-some w q = first-some (Way t ns) (earliestWay t ns) w earliest-first q
+
+  pub earliest-found : (w : List ℕ) → Way t ns w → (v : List ℕ) × (earliestWay t ns ≡ some v)
+  earliest-found w p = first-found (Way t ns) (earliestWay t ns) earliest-first w p
+
+pub no-needs : (t : Table) → earliestWay t [] ≡ some []
+unfolding earliestWay ways entryLists isWay
+no-needs t = refl
