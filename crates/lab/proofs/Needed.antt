@@ -69,11 +69,11 @@ one-net s b other small h none =
     by-test (isNet s) (λ n. rw (h (leb-true 4 s n), n, lt-ltb s 65536 small)) (λ n. rw n (by-test b (λ e. rw (e, n)) (λ e. rw e none)))
 
 module _ (port : RegisterCell → ℕ) (r : RegisterCell) (small : port r < 65536) where
-  nets-counted : filterb netCode (counted port GND r) ≡ needed port r
+  nets-counted : (default : ℕ) → isNet default ≡ false → filterb netCode (counted port default r) ≡ needed port r
   unfolding counted needed
-  nets-counted =
-      one-net (port r) (connected (port r)) (cond (used r) (GND ∷ []) []) small (λ n. rw (ne-eqb (port r) 0 (λ e. omega arith)))
-      (by-test (used r) (λ e. rw e) (λ e. rw e))
+  nets-counted default q =
+      one-net (port r) (connected (port r)) (cond (used r) (default ∷ []) []) small (λ n. rw (ne-eqb (port r) 0 (λ e. omega arith)))
+      (by-test (used r) (λ e. rw (e, q)) (λ e. rw e))
 
   nets-in-use : filterb netCode (inUse port r) ≡ needed port r
   unfolding inUse needed
@@ -165,13 +165,13 @@ module _ (cs : List Record) where
 
   module _ (fit : AllFit cs) where
     nets-clk : Nets clock clk
-    nets-clk = nets-rising clock (needed clk) (λ r g. nets-counted clk r (ports-small r g .0)) cs fit
+    nets-clk = nets-rising clock (needed clk) (λ r g. nets-counted clk r (ports-small r g .0) _ refl) cs fit
 
     nets-ena : Nets (needed ena) ena
     nets-ena = nets-rising (needed ena) (needed ena) (λ r g. nets-needed ena r (ports-small r g .1)) cs fit
 
     nets-aclr : Nets clear aclr
-    nets-aclr = nets-rising clear (needed aclr) (λ r g. nets-counted aclr r (ports-small r g .2)) cs fit
+    nets-aclr = nets-rising clear (needed aclr) (λ r g. nets-counted aclr r (ports-small r g .2) _ refl) cs fit
 
     nets-sclr : Nets (inUse sclr) sclr
     nets-sclr = nets-rising (inUse sclr) (needed sclr) (λ r g. nets-in-use sclr r (ports-small r g .3)) cs fit
