@@ -1,4 +1,4 @@
-/* Judges two files and prints the verdict, the culprit and the route of every occupied LAB.
+/* Judges two files and prints the verdict, the culprit and, for a legal answer, the route of every occupied LAB.
  *
  *     cc -o example c/example.c target/staticlib/libc_api.a && ./example exercise.lxe answer.lxa */
 #include "nurimkkot.h"

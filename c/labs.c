@@ -1,4 +1,5 @@
-/* Reads two files record by record and checks each occupied LAB by itself.
+/* Reads two files record by record and checks each occupied LAB by itself; where one of 10 to 15 or 20 to 26 applies, prints that number
+ * and no LAB. Rules 16 and 40 to 51 are not asked here, and a cell that breaks one of 30 to 35 gives its LAB number 18.
  *
  *     cc -o labs c/labs.c target/staticlib/libc_api.a && ./labs exercise.lxe answer.lxa */
 #include "nurimkkot.h"
@@ -7,7 +8,7 @@
 #define CELLS 512
 #define LABS 1024
 
-/* All cells of an exercise that opens; -1 where a record breaks the layout. */
+/* All cells of an exercise that opens, and how many there are; -1 where a record breaks the layout. */
 static int read_cells(const uint8_t *exercise, size_t length, struct nurimkkot_cell *cells)
 {
     uint16_t at = 0, fields[NURIMKKOT_CELL_FIELDS];
@@ -49,7 +50,7 @@ int main(int argc, char **argv)
         return 0;
     }
     number = nurimkkot_open_answer(answer, answer_length);
-    /* The count stands before the length in the judge's order. */
+    /* 24 compares the two counts, which no reader of one sheet can. It stands before 25, the length, in the judge's order. */
     if ((number == 0 || number == 25) && answer[9] + 256 * answer[10] != n)
         number = 24;
     if (number != 0) {

@@ -1,6 +1,22 @@
 /* Nurimkkot: the judge of FPGA placement exercises, the check of one LAB and the readers of both sheets, for C.
  *
- * Link with libc_api.a, which `rt staticlib c_api` writes to target/staticlib. */
+ * Link with libc_api.a, which `rt staticlib c_api` writes to target/staticlib. The archive is for x86-64 Linux and calls nothing
+ * but memory functions of the C library (memcpy, memset and the like).
+ *
+ * Every function asks this of its pointers:
+ *   - a pointer is valid for the length or count that goes with it, or for the array that is declared here;
+ *   - no pointer is NULL, also where the length or count is 0: any other that is aligned will do there;
+ *   - a pointer is aligned for its type. The records in a sheet need not be: copy them, and do not cast `exercise + 9` to
+ *     struct nurimkkot_cell *;
+ *   - what the call writes (route, numbers, *at, cell, place) overlaps nothing else that is passed to the same call. What it only
+ *     reads may overlap.
+ * Nothing is asked of the contents: a sheet, a list and *at may hold anything, and a length or count may be any, also 0.
+ *
+ * Every call returns. It allocates nothing and keeps nothing, so threads may call at the same time, where none writes what another
+ * uses.
+ *
+ * Stack: nurimkkot_judge uses less than 48 KiB, nurimkkot_check_lab less than 8 KiB, each reader less than 1 KiB. That is measured,
+ * not proved: tests/c/stack.c fails above these figures. */
 #ifndef NURIMKKOT_H
 #define NURIMKKOT_H
 
@@ -11,18 +27,20 @@
 extern "C" {
 #endif
 
-/* The route buffer: eight bytes for each of 1,024 LABs. */
+/* The length of the judge's route buffer: eight bytes for each of 1,024 LABs. */
 #define NURIMKKOT_ROUTE_SIZE 8192
 
-/* "None" in the cell and the LAB of a verdict, and in a route byte. */
+/* "None" in the cell and in the LAB of a verdict. */
 #define NURIMKKOT_NONE 65535
+
+/* "No need" in a route byte. */
 #define NURIMKKOT_NO_ENTRY 255
 
 /* What each of the seven numbers is. */
 enum {
     NURIMKKOT_NUMBER,     /* the verdict: 0 is legal, docs/VERDICTS.md lists the others */
     NURIMKKOT_CELL,       /* the cell at fault, or NURIMKKOT_NONE */
-    NURIMKKOT_LAB,        /* the LAB at fault, or NURIMKKOT_NONE */
+    NURIMKKOT_LAB,        /* the LAB at fault (32y + x), or NURIMKKOT_NONE */
     NURIMKKOT_APPRENTICE, /* the number on the answer sheet; 0 for verdicts 1 to 23 */
     NURIMKKOT_SHEET,      /* where the culprit stands: 0 the exercise, 1 the answer */
     NURIMKKOT_START,      /* its first byte */
@@ -32,53 +50,52 @@ enum {
 
 /* Judges an exercise sheet and an answer sheet.
  *
- * Nothing is asked of the caller: the sheets may hold any bytes and have any length, also 0, and so may the route
- * buffer. A pointer must be valid for its length; with length 0 any pointer that is not NULL will do. The buffers
- * must not overlap.
- *
  * numbers    all seven are written, whatever the verdict.
- * route      where the verdict is 0, all 8,192 bytes are written: for LAB n the eight bytes from 8 * n on are the
- *            control entries of two clk, two ena, two aclr, sclr and sload, 255 where there is no need. Where the
- *            verdict is another, not one byte is touched. A buffer that isn't exactly 8,192 bytes long gives
- *            verdict 1.
- *
- * The call always returns, allocates nothing, keeps nothing and uses some 42 KiB of stack. */
+ * route      where the verdict is 0, all 8,192 bytes are written: for LAB n the eight bytes from 8 * n on are the control entries
+ *            of two clk, two ena, two aclr, sclr and sload, NURIMKKOT_NO_ENTRY where there is no need. Where the verdict is another,
+ *            not one byte is touched. A buffer that isn't exactly 8,192 bytes long gives verdict 1. */
 void nurimkkot_judge(const uint8_t *exercise, size_t exercise_length,
                      const uint8_t *answer, size_t answer_length,
                      uint8_t *route, size_t route_length,
                      uint64_t numbers[NURIMKKOT_NUMBERS]);
 
-/* A cell's record, laid out as the 24 bytes in the exercise sheet: kind (1 combinational, 2 register), flag, eleven signals. */
+/* A cell's record: kind (1 combinational, 2 register), flag and eleven signals, as nurimkkot_next_cell gives them. On a little-endian
+ * machine, such as x86-64, it has the very 24 bytes of the record in the exercise sheet. */
 struct nurimkkot_cell {
     uint8_t kind;
     uint8_t flag;
     uint16_t signals[11];
 };
 
-/* The check of one LAB on a list of its cells' records, as a tablet may make it while an answer is still being placed.
+/* The check of one LAB on a list of its cells' records, in any order, as a tablet may make it while an answer is still being placed.
  *
  * Returns 18 if the list has over 32 cells, or a record that breaks the layout (at 1,024 nets) or one of rules 30 to 35; otherwise
  * the lowest broken of rules 60 to 65; otherwise 0. All eight bytes of `route` are written: the LAB's route bytes where the number
- * is 0, eight times 255 where it is another. For a LAB of two sheets that pass all rules up to 51 this is what nurimkkot_judge says
- * of that LAB.
+ * is 0, eight times NURIMKKOT_NO_ENTRY where it is another.
  *
- * Any list will do, also one of no cells: then pass any pointer that is not NULL and has the struct's alignment. The call uses some
- * 4 KiB of stack. */
+ * Beside the judge: for two sheets that pass all rules up to 51, and a list of the records of all cells that the answer puts into
+ * one LAB, whatever their order,
+ *   - the number is never 18;
+ *   - where nurimkkot_judge names that LAB, its verdict is this number;
+ *   - where nurimkkot_judge says legal, this number is 0 and these are the LAB's eight bytes of its route buffer;
+ *   - nurimkkot_judge names only the lowest broken LAB: every lower LAB has number 0 here, and of a higher one it says nothing. */
 uint8_t nurimkkot_check_lab(const struct nurimkkot_cell *cells, size_t count, uint8_t route[8]);
 
-/* What the readers below say. */
+/* What nurimkkot_next_cell and nurimkkot_next_place say. */
 enum {
     NURIMKKOT_GIVEN,  /* a record is given, and the number of the next one is in *at */
     NURIMKKOT_BROKEN, /* the record breaks its layout; *at stays */
-    NURIMKKOT_END     /* there is no record any more; *at stays */
+    NURIMKKOT_END     /* there is no record with that number; *at stays */
 };
 
 /* Opening a sheet: the verdict of 10 to 14 that applies to an exercise, of 20 to 25 without 24 that applies to an answer, or 0. */
 uint8_t nurimkkot_open_exercise(const uint8_t *exercise, size_t length);
 uint8_t nurimkkot_open_answer(const uint8_t *answer, size_t length);
 
-/* Gives the record with number *at and moves *at on; begin with 0. All fields are written in every case, with zeros where no record
- * is given. Asks nothing of the sheet: one that does not open is read as far as its bytes go.
+/* Reads the record with number *at; begin with 0. All fields are written in every case, with zeros where no record is given.
+ *
+ * A sheet that does not open is read all the same: its counts are taken as they stand, a byte of them that is missing reads as 0, and
+ * a record that is not there whole is broken.
  *
  * cell       kind, flag and eleven signals, in the order of struct nurimkkot_cell.
  * place      x, y and LE. */

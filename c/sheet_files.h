@@ -5,11 +5,11 @@
 #include <stdint.h>
 #include <stdio.h>
 
-/* One byte more than the largest legal sheets: a longer file is refused by its length all the same. */
+/* One byte more than the largest legal sheets: of a longer file no more is needed to give it its verdict. */
 #define EXERCISE_ROOM 12298
 #define ANSWER_ROOM 2060
 
-/* Reads a file; one that is missing counts as empty. */
+/* Reads a file, as far as there is room; one that is missing counts as empty. */
 static size_t read_file(const char *path, uint8_t *bytes, size_t room)
 {
     FILE *file = fopen(path, "rb");

@@ -1,26 +1,38 @@
-/* Calls the readers and the check of one LAB as the tablet would: sheets cut short at every length, lists at both sides of every
- * limit, guard bytes around what is written, and sheets and lists of their own so that valgrind sees a read past the end. */
-#include "check.h"
+/* Calls the readers and the check of one LAB as the tablet would: sheets cut short at every length, lists that keep and that break each
+ * rule of the list check, each in several orders, guard bytes around what is written, and a block of its own for each sheet and list so
+ * that valgrind sees a read past the end. */
+#include "sheets.h"
 
 static const uint8_t NO_ROUTE[8] = {255, 255, 255, 255, 255, 255, 255, 255};
 
 enum { DATAIN, CLK, ENA, ACLR, SCLR, SLOAD, SDATA, REGOUT };
 
-/* One call of a reader with guards around the fields; gives what it says. */
+/* What opening a sheet gives. */
+static uint8_t opening(int of_answer, const uint8_t *sheet, size_t length)
+{
+    uint8_t *own = copy_of(sheet, length);
+    uint8_t number = of_answer ? nurimkkot_open_answer(own, length) : nurimkkot_open_exercise(own, length);
+    give_back(own, sheet, length);
+    return number;
+}
+
+/* One call of a reader with guards around the fields and around the number; gives what it says. */
 static uint8_t next(int of_answer, const uint8_t *sheet, size_t length, uint16_t *at, uint16_t *fields)
 {
-    uint16_t guarded[NURIMKKOT_CELL_FIELDS + 2], stood = *at;
+    uint16_t guarded[NURIMKKOT_CELL_FIELDS + 2], number[3] = {0x5a5a, *at, 0x5a5a}, stood = *at;
     size_t n = of_answer ? NURIMKKOT_PLACE_FIELDS : NURIMKKOT_CELL_FIELDS, i;
     uint8_t *own = copy_of(sheet, length);
     uint8_t said;
     memset(guarded, 0x5a, sizeof guarded);
-    said = of_answer ? nurimkkot_next_place(own, length, at, guarded + 1) : nurimkkot_next_cell(own, length, at, guarded + 1);
+    said = of_answer ? nurimkkot_next_place(own, length, number + 1, guarded + 1) : nurimkkot_next_cell(own, length, number + 1, guarded + 1);
+    *at = number[1];
     expect(guarded[0] == 0x5a5a && guarded[n + 1] == 0x5a5a, "guards around the fields", (long)n);
+    expect(number[0] == 0x5a5a && number[2] == 0x5a5a, "guards around the number", stood);
     expect(*at == (said == NURIMKKOT_GIVEN ? stood + 1 : stood), "where the reader goes on", stood);
     for (i = 0; said != NURIMKKOT_GIVEN && i < n; i++)
         expect(guarded[1 + i] == 0, "fields of no record", (long)i);
     memcpy(fields, guarded + 1, 2 * n);
-    free(own);
+    give_back(own, sheet, length);
     return said;
 }
 
@@ -32,20 +44,32 @@ static void cut_short(int of_answer, const uint8_t *sheet, size_t head, size_t r
     uint16_t fields[NURIMKKOT_CELL_FIELDS], at;
     size_t n = of_answer ? NURIMKKOT_PLACE_FIELDS : NURIMKKOT_CELL_FIELDS, length;
     for (length = 0; length <= head + 2 * record; length++) {
-        uint8_t *own = copy_of(sheet, length);
-        uint8_t opened = of_answer ? nurimkkot_open_answer(own, length) : nurimkkot_open_exercise(own, length);
         size_t whole = length < head + record ? 0 : length < head + 2 * record ? 1 : 2, k;
-        free(own);
-        expect(opened == (length < head ? early : whole < 2 ? late : 0), "opening a sheet", (long)length);
+        expect(opening(of_answer, sheet, length) == (length < head ? early : whole < 2 ? late : 0), "opening a sheet", (long)length);
         at = 0;
         for (k = 0; k < whole; k++) {
             expect(next(of_answer, sheet, length, &at, fields) == NURIMKKOT_GIVEN, "a record", (long)length);
             expect(memcmp(fields, k ? second : first, 2 * n) == 0, "its fields", (long)k);
         }
-        /* The count stands at the head's end: cut off it reads as 0, otherwise it asks for two records. */
+        /* The count is the head's last two bytes, 2 and 0, and a missing byte reads as 0: it is 2 as soon as the first of them is there. */
         for (k = 0; k < 2; k++)
             expect(next(of_answer, sheet, length, &at, fields) == (length < head - 1 || whole == 2 ? NURIMKKOT_END : NURIMKKOT_BROKEN),
                    "after the last record", (long)length);
+    }
+}
+
+/* Of a 16-bit count one byte is there: it reads as that byte. The exercise has 8 bytes, the answer 10; both counts read as 3. */
+static void half_count(void)
+{
+    static const uint8_t exercise[8] = {'L', 'X', 'E', 1, 0, 4, 0, 3}, answer[10] = {'L', 'X', 'A', 1, 0, 7, 0, 0, 0, 3};
+    uint16_t fields[NURIMKKOT_CELL_FIELDS], i, at;
+    expect(opening(0, exercise, sizeof exercise) == 10, "an exercise of 8 bytes", 10);
+    expect(opening(1, answer, sizeof answer) == 20, "an answer of 10 bytes", 20);
+    for (i = 0; i < 6; i++) {
+        at = i;
+        expect(next(0, exercise, sizeof exercise, &at, fields) == (i < 3 ? NURIMKKOT_BROKEN : NURIMKKOT_END), "half a cell count", i);
+        at = i;
+        expect(next(1, answer, sizeof answer, &at, fields) == (i < 3 ? NURIMKKOT_BROKEN : NURIMKKOT_END), "half a place count", i);
     }
 }
 
@@ -61,7 +85,13 @@ static void readers(void)
 
     cut_short(0, EXERCISE, 9, 24, 10, 14, cells[0], cells[1]);
     cut_short(1, ANSWER, 11, 4, 20, 25, place, place);
+    half_count();
     memcpy(damaged, EXERCISE, sizeof EXERCISE);
+    damaged[0] = 'l';
+    at = 0;
+    expect(opening(0, damaged, sizeof damaged) == 11, "a wrong mark", 0);
+    expect(next(0, damaged, sizeof damaged, &at, fields) == NURIMKKOT_GIVEN && memcmp(fields, cells[0], sizeof cells[0]) == 0,
+           "a cell after a wrong mark", 0);
     damaged[9] = 3;
     at = 0;
     expect(next(0, damaged, sizeof damaged, &at, fields) == NURIMKKOT_BROKEN, "a cell of kind 3", 0);
@@ -71,7 +101,8 @@ static void readers(void)
     expect(next(0, EXERCISE, sizeof EXERCISE, &at, fields) == NURIMKKOT_END, "far past the end", 65535);
 }
 
-static void check(const char *what, const struct nurimkkot_cell *cells, size_t count, uint8_t number, const uint8_t *route)
+/* One call of the check of one LAB, with guards around the route bytes. */
+static void check_once(const char *what, const struct nurimkkot_cell *cells, size_t count, uint8_t number, const uint8_t *route)
 {
     uint8_t guarded[24];
     struct nurimkkot_cell *own = copy_of(cells, count * sizeof *cells);
@@ -81,10 +112,24 @@ static void check(const char *what, const struct nurimkkot_cell *cells, size_t c
     expect(memcmp(guarded + 8, route, 8) == 0, what, -1);
     for (i = 0; i < 8; i++)
         expect(guarded[i] == 0xa5 && guarded[16 + i] == 0xa5, "guards around the route bytes", (long)i);
-    free(own);
+    give_back(own, cells, count * sizeof *cells);
 }
 
-/* A register with its regout on a net of its own. */
+/* The list from each of its cells on, and each of these backwards: the order does not matter. */
+static void check(const char *what, const struct nurimkkot_cell *cells, size_t count, uint8_t number, const uint8_t *route)
+{
+    static struct nurimkkot_cell forwards[40], backwards[40];
+    size_t first, i;
+    check_once(what, cells, count, number, route);
+    for (first = 0; first < count; first++) {
+        for (i = 0; i < count; i++)
+            forwards[i] = backwards[count - 1 - i] = cells[(first + i) % count];
+        check_once(what, forwards, count, number, route);
+        check_once(what, backwards, count, number, route);
+    }
+}
+
+/* A register with signals at these ports and 0 at the others. */
 static struct nurimkkot_cell reg(uint16_t clk, uint16_t ena, uint16_t aclr, uint16_t regout)
 {
     struct nurimkkot_cell c = {2, 0, {0}};
@@ -95,17 +140,88 @@ static struct nurimkkot_cell reg(uint16_t clk, uint16_t ena, uint16_t aclr, uint
     return c;
 }
 
+/* A cell with a signal at one port more. */
+static struct nurimkkot_cell with(struct nurimkkot_cell c, int port, uint16_t signal)
+{
+    c.signals[port] = signal;
+    return c;
+}
+
+/* Cell i of an exercise, from the reader. */
+static struct nurimkkot_cell cell_of(const uint8_t *exercise, size_t length, uint16_t i)
+{
+    struct nurimkkot_cell c;
+    uint16_t fields[NURIMKKOT_CELL_FIELDS];
+    size_t j;
+    expect(next(0, exercise, length, &i, fields) == NURIMKKOT_GIVEN, "a cell for a list", i);
+    c.kind = (uint8_t)fields[0];
+    c.flag = (uint8_t)fields[1];
+    for (j = 0; j < 11; j++)
+        c.signals[j] = fields[2 + j];
+    return c;
+}
+
+static int little_endian(void)
+{
+    static const uint16_t one = 1;
+    return *(const uint8_t *)&one == 1;
+}
+
+/* Rules 30 to 35 on one register: 18 where one is broken, and what the same register gets without the fault. */
+static void register_rules(void)
+{
+    static const uint8_t clk[8] = {0, 255, 255, 255, 255, 255, 255, 255};
+    static const uint8_t clk_ena[8] = {0, 255, 2, 255, 255, 255, 255, 255};
+    static const uint8_t clk_sclr[8] = {0, 255, 255, 255, 255, 255, 4, 255};
+    static const uint8_t clk_sload[8] = {0, 255, 255, 255, 255, 255, 255, 3};
+    static const int data[2] = {DATAIN, SDATA};
+    struct nurimkkot_cell open = reg(0, 0, 0, 20), used = reg(4, 0, 0, 20), cell;
+    int i;
+
+    cell = reg(4, 0, 0, 0);
+    check("30: clk without regout", &cell, 1, 18, NO_ROUTE);
+    check("clk with regout", &used, 1, 0, clk);
+    cell = with(open, SCLR, 6);
+    check("31: sclr without clk", &cell, 1, 18, NO_ROUTE);
+    cell = with(used, SCLR, 6);
+    check("sclr with clk", &cell, 1, 0, clk_sclr);
+    cell = with(with(open, SLOAD, 6), SDATA, 8);
+    check("32: sload without clk", &cell, 1, 18, NO_ROUTE);
+    cell = with(used, SLOAD, 6);
+    check("33: sload without sdata", &cell, 1, 18, NO_ROUTE);
+    cell = with(cell, SDATA, 8);
+    check("sload with clk and sdata", &cell, 1, 0, clk_sload);
+    cell = with(open, ENA, 6);
+    check("34: ena without clk", &cell, 1, 18, NO_ROUTE);
+    cell = with(used, ENA, 6);
+    check("ena with clk", &cell, 1, 0, clk_ena);
+    for (i = 0; i < 2; i++) {
+        cell = with(used, data[i], 1);
+        check("35: datain or sdata is GND", &cell, 1, 18, NO_ROUTE);
+        cell = with(used, data[i], 7);
+        check("35: datain or sdata is inverted", &cell, 1, 18, NO_ROUTE);
+        cell = with(used, data[i], 2);
+        check("datain or sdata is VCC", &cell, 1, 0, clk);
+        cell = with(used, data[i], 6);
+        check("datain or sdata is a net", &cell, 1, 0, clk);
+    }
+}
+
 static void lists(void)
 {
     static const uint8_t listing[8] = {0, 255, 255, 255, 1, 255, 255, 255};
     static const uint8_t p10[8] = {0, 2, 255, 255, 1, 4, 255, 255};
+    static const uint8_t p12[8] = {0, 2, 255, 255, 1, 4, 5, 3};
     static struct nurimkkot_cell cells[40];
     size_t i, k;
 
     expect(sizeof(struct nurimkkot_cell) == 24, "a cell has 24 bytes", sizeof(struct nurimkkot_cell));
     check("no cells", cells, 0, 0, NO_ROUTE);
-    memcpy(cells, EXERCISE + 9, 48);
+    for (i = 0; i < 2; i++)
+        cells[i] = cell_of(EXERCISE, sizeof EXERCISE, (uint16_t)i);
     check("the worked listing", cells, 2, 0, listing);
+    if (little_endian())
+        expect(memcmp(cells, EXERCISE + 9, 48) == 0, "records with the bytes of the sheet", 48);
 
     memset(cells, 0, sizeof cells);
     for (i = 0; i < 33; i++)
@@ -119,10 +235,7 @@ static void lists(void)
     cells[7].signals[0] = 3;
     check("code 3", cells, 32, 18, NO_ROUTE);
 
-    cells[0] = reg(0, 6, 0, 8);
-    check("ena without clk", cells, 1, 18, NO_ROUTE);
-    cells[0] = reg(4, 0, 0, 0);
-    check("clk without regout", cells, 1, 18, NO_ROUTE);
+    register_rules();
     cells[0] = reg(4, 0, 0, 20);
     cells[1] = reg(5, 0, 0, 22);
     cells[2] = reg(0, 0, 0, 24);
@@ -134,17 +247,21 @@ static void lists(void)
     for (i = 0; i < 3; i++)
         cells[i] = reg(4, 0, (uint16_t)(10 + 2 * i), (uint16_t)(20 + 2 * i));
     check("three aclr", cells, 3, 62, NO_ROUTE);
-    for (i = 0; i < 2; i++) {
-        cells[i] = reg(4, 0, 0, (uint16_t)(20 + 2 * i));
-        cells[i].signals[SCLR] = (uint16_t)(10 + 2 * i);
-    }
+    for (i = 0; i < 2; i++)
+        cells[i] = with(reg(4, 0, 0, (uint16_t)(20 + 2 * i)), SCLR, (uint16_t)(10 + 2 * i));
     check("two sclr", cells, 2, 63, NO_ROUTE);
+    for (i = 0; i < 2; i++)
+        cells[i] = with(with(reg(4, 0, 0, (uint16_t)(20 + 2 * i)), SLOAD, (uint16_t)(10 + 2 * i)), SDATA, 2);
+    check("two sload", cells, 2, 63, NO_ROUTE);
     cells[0] = reg(4, 0, 8, 20);
     cells[1] = reg(6, 0, 10, 22);
     check("P10", cells, 2, 0, p10);
     cells[0] = reg(4, 8, 12, 20);
     cells[1] = reg(6, 10, 14, 22);
     check("P11", cells, 2, 65, NO_ROUTE);
+    cells[0] = with(reg(4, 0, 8, 20), SCLR, 12);
+    cells[1] = with(with(reg(6, 0, 10, 22), SLOAD, 14), SDATA, 2);
+    check("P12", cells, 2, 0, p12);
 
     for (k = 38; k <= 39; k++) {
         memset(cells, 0, sizeof cells);

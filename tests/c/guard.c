@@ -1,10 +1,11 @@
-/* Calls the judge as the tablet would: empty sheets, route buffers of every length around the right one with guard bytes on both
- * sides, damaged sheets. The sanitizers watch this program; what the library itself reads and writes is seen only under valgrind. */
-#include "check.h"
+/* Calls the judge as the tablet would: empty sheets, sheets cut short and sheets with one wrong bit, route buffers of the right length,
+ * one byte more and less, one byte and none, and guard bytes on both sides of what is written. The sanitizers watch this program; the
+ * library is not built with them, so its own reads and writes are watched by valgrind. */
+#include "sheets.h"
 
 #define GUARD 64
 
-/* Judges with a route buffer between guard bytes; returns the verdict and leaves the buffer in `route`. */
+/* Judges with a route buffer and numbers between guard bytes, and copies both to `route` and `numbers`. */
 static void judge(const uint8_t *exercise, size_t exercise_length, const uint8_t *answer, size_t answer_length,
                   uint8_t *route, size_t route_length, uint64_t *numbers)
 {
@@ -13,6 +14,8 @@ static void judge(const uint8_t *exercise, size_t exercise_length, const uint8_t
     uint8_t *room = malloc(route_length + 2 * GUARD);
     uint64_t guarded[NURIMKKOT_NUMBERS + 2];
     size_t i;
+    if (room == NULL)
+        exit(2);
     memset(room, 0xa5, route_length + 2 * GUARD);
     memset(guarded, 0x5a, sizeof guarded);
     nurimkkot_judge(e, exercise_length, a, answer_length, room + GUARD, route_length, guarded + 1);
@@ -26,10 +29,12 @@ static void judge(const uint8_t *exercise, size_t exercise_length, const uint8_t
     if (numbers[NURIMKKOT_NUMBER] != 0)
         for (i = 0; i < route_length; i++)
             expect(room[GUARD + i] == 0xa5, "route touched on a refusal", (long)i);
+    expect(numbers[NURIMKKOT_START] + numbers[NURIMKKOT_LENGTH] <= (numbers[NURIMKKOT_SHEET] ? answer_length : exercise_length),
+           "culprit inside its sheet", (long)numbers[NURIMKKOT_START]);
     memcpy(route, room + GUARD, route_length);
     free(room);
-    free(a);
-    free(e);
+    give_back(a, answer, answer_length);
+    give_back(e, exercise, exercise_length);
 }
 
 int main(void)
@@ -57,14 +62,19 @@ int main(void)
     judge(EXERCISE, sizeof EXERCISE, ANSWER, 0, route, 8192, numbers);
     expect(numbers[NURIMKKOT_NUMBER] == 20, "empty answer", 0);
 
+    /* What is only read may overlap. */
+    nurimkkot_judge(EXERCISE, sizeof EXERCISE, EXERCISE, sizeof EXERCISE, route, 8192, numbers);
+    expect(numbers[NURIMKKOT_NUMBER] == 21, "the exercise sheet handed back", 0);
+
     for (i = 0; i < sizeof EXERCISE; i++) {
         judge(EXERCISE, i, ANSWER, sizeof ANSWER, route, 8192, numbers);
         expect(numbers[NURIMKKOT_NUMBER] == (i < 9 ? 10 : 14), "exercise cut short", (long)i);
-        expect(numbers[NURIMKKOT_LENGTH] == (i < 9 ? i : 9), "culprit of an exercise cut short", (long)i);
+        expect(numbers[NURIMKKOT_SHEET] == 0 && numbers[NURIMKKOT_LENGTH] == (i < 9 ? i : 9), "culprit of an exercise cut short", (long)i);
     }
     for (i = 0; i < sizeof ANSWER; i++) {
         judge(EXERCISE, sizeof EXERCISE, ANSWER, i, route, 8192, numbers);
         expect(numbers[NURIMKKOT_NUMBER] == (i < 11 ? 20 : 25), "answer cut short", (long)i);
+        expect(numbers[NURIMKKOT_SHEET] == 1 && numbers[NURIMKKOT_LENGTH] == (i < 11 ? i : 11), "culprit of an answer cut short", (long)i);
     }
     for (i = 0; i < 8 * sizeof EXERCISE; i++) {
         memcpy(damaged, EXERCISE, sizeof EXERCISE);
@@ -72,6 +82,12 @@ int main(void)
         judge(damaged, sizeof damaged, ANSWER, sizeof ANSWER, route, 8192, numbers);
         expect(numbers[NURIMKKOT_NUMBER] <= 65, "one bit of the exercise changed", (long)i);
     }
-    printf(failures ? "%d failures\n" : "C: all as expected\n", failures);
+    for (i = 0; i < 8 * sizeof ANSWER; i++) {
+        memcpy(damaged, ANSWER, sizeof ANSWER);
+        damaged[i / 8] ^= (uint8_t)(1u << (i % 8));
+        judge(EXERCISE, sizeof EXERCISE, damaged, sizeof ANSWER, route, 8192, numbers);
+        expect(numbers[NURIMKKOT_NUMBER] <= 65, "one bit of the answer changed", (long)i);
+    }
+    printf(failures ? "%d failures\n" : "C: judge as expected\n", failures);
     return failures != 0;
 }

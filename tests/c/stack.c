@@ -1,0 +1,172 @@
+/* Measures the stack that a call of each function uses and fails where that is not less than the header says. A call runs in a thread
+ * whose stack is painted first; the paint that is gone tells what the call used. The sheets have 512 cells, the LABs and the list 32, and
+ * six of their needs get an entry before the search ends, which is as deep as it goes on six entries. Built without sanitizers, whose
+ * frames would be measured too. */
+#define _XOPEN_SOURCE 600
+#include "check.h"
+
+#include <pthread.h>
+
+#define KIB 1024
+#define ROOM (256 * KIB)
+#define PAINT 0xc5
+/* Not painted: what may belong to the measuring function itself. */
+#define MARGIN 256
+
+#define CELLS 512
+#define LIST 32
+
+static uint8_t exercise[9 + 24 * CELLS], answer[11 + 4 * CELLS], route[NURIMKKOT_ROUTE_SIZE], bytes[8], said;
+static uint64_t numbers[NURIMKKOT_NUMBERS];
+static struct nurimkkot_cell list[LIST];
+static uint16_t at, fields[NURIMKKOT_CELL_FIELDS];
+
+static void judge(void)
+{
+    nurimkkot_judge(exercise, sizeof exercise, answer, sizeof answer, route, sizeof route, numbers);
+}
+
+static void check_lab(void)
+{
+    said = nurimkkot_check_lab(list, LIST, bytes);
+}
+
+static void open_exercise(void)
+{
+    said = nurimkkot_open_exercise(exercise, sizeof exercise);
+}
+
+static void open_answer(void)
+{
+    said = nurimkkot_open_answer(answer, sizeof answer);
+}
+
+static void next_cell(void)
+{
+    said = nurimkkot_next_cell(exercise, sizeof exercise, &at, fields);
+}
+
+static void next_place(void)
+{
+    said = nurimkkot_next_place(answer, sizeof answer, &at, fields);
+}
+
+/* A stack, the call to make on it, and how many bytes it used: MARGIN where it used no more than that. */
+struct measured {
+    uint8_t *room;
+    void (*call)(void);
+    size_t used;
+};
+
+static void *measure(void *argument)
+{
+    struct measured *m = argument;
+    volatile uint8_t *room = m->room;
+    volatile uint8_t here = 0;
+    size_t top = (size_t)((uintptr_t)&here - (uintptr_t)room), i;
+    for (i = 0; i < top - MARGIN; i++)
+        room[i] = PAINT;
+    m->call();
+    for (i = 0; i < top - MARGIN && room[i] == PAINT; i++)
+        continue;
+    m->used = top - i;
+    return NULL;
+}
+
+/* Makes a call, and sees that it uses less than the limit. Gives the larger of `before` and what it used. */
+static size_t less_than(size_t limit, const char *what, void (*call)(void), size_t before)
+{
+    struct measured m = {NULL, NULL, ROOM};
+    pthread_attr_t attributes;
+    pthread_t thread;
+    void *room;
+    if (posix_memalign(&room, 4 * KIB, ROOM) != 0 || pthread_attr_init(&attributes) != 0)
+        exit(2);
+    m.room = room;
+    m.call = call;
+    if (pthread_attr_setstack(&attributes, room, ROOM) != 0 || pthread_create(&thread, &attributes, measure, &m) != 0
+        || pthread_join(thread, NULL) != 0)
+        exit(2);
+    expect(m.used < limit, what, (long)m.used);
+    pthread_attr_destroy(&attributes);
+    free(room);
+    return m.used > before ? m.used : before;
+}
+
+/* A register, or a combinational cell that reads four nets. Registers have two clk, two aclr, sclr and sload, and may have an ena. */
+static struct nurimkkot_cell cell_with(int i, uint16_t ena)
+{
+    struct nurimkkot_cell cell = {1, 0, {2051, 2049, 2047, 2045}};
+    uint16_t other = (uint16_t)(2 * (i % 2));
+    if (i % LIST < LIST / 2) {
+        cell.kind = 2;
+        cell.signals[0] = 0;
+        cell.signals[1] = (uint16_t)(4 + other);
+        cell.signals[2] = ena;
+        cell.signals[3] = (uint16_t)(8 + other);
+        cell.signals[4] = 12;
+        cell.signals[5] = 14;
+        cell.signals[6] = 2;
+        cell.signals[7] = (uint16_t)(200 + 2 * i);
+    }
+    return cell;
+}
+
+/* Fills both sheets and the list. It does without memcpy and memset, so that the first call to be measured is the first to use them: a
+ * program that binds them late does so there, on the same stack. */
+static void fill(uint16_t ena)
+{
+    static const uint8_t exercise_head[9] = {'L', 'X', 'E', 1, 0, 0, 4, 0, 2}, answer_head[11] = {'L', 'X', 'A', 1, 0, 7, 0, 0, 0, 0, 2};
+    int i, j;
+    for (i = 0; i < 9; i++)
+        exercise[i] = exercise_head[i];
+    for (i = 0; i < 11; i++)
+        answer[i] = answer_head[i];
+    for (i = 0; i < CELLS; i++) {
+        struct nurimkkot_cell cell = cell_with(i, ena);
+        uint8_t *record = exercise + 9 + 24 * i, *place = answer + 11 + 4 * i;
+        if (i < LIST)
+            list[i] = cell;
+        record[0] = cell.kind;
+        record[1] = cell.flag;
+        for (j = 0; j < 11; j++) {
+            record[2 + 2 * j] = (uint8_t)(cell.signals[j] % 256);
+            record[3 + 2 * j] = (uint8_t)(cell.signals[j] / 256);
+        }
+        place[0] = (uint8_t)(i / LIST);
+        place[1] = 31;
+        place[2] = (uint8_t)(i % 16);
+        place[3] = 0;
+    }
+}
+
+int main(void)
+{
+    size_t judges = 0, checks = 0, reads = 0;
+    int needs;
+    /* Six needs, which all get an entry; then seven, of which the last gets none. */
+    for (needs = 6; needs <= 7; needs++) {
+        uint8_t expected = needs == 6 ? 0 : 65;
+        fill(needs == 6 ? 0 : 16);
+        checks = less_than(8 * KIB, "stack of nurimkkot_check_lab", check_lab, checks);
+        expect(said == expected, "number of the list", said);
+        judges = less_than(48 * KIB, "stack of nurimkkot_judge", judge, judges);
+        expect(numbers[NURIMKKOT_NUMBER] == expected, "verdict of the sheets", (long)numbers[NURIMKKOT_NUMBER]);
+    }
+    expect(checks > MARGIN && judges > MARGIN, "the measuring itself", (long)judges);
+    reads = less_than(KIB, "stack of nurimkkot_open_exercise", open_exercise, reads);
+    reads = less_than(KIB, "stack of nurimkkot_open_answer", open_answer, reads);
+    /* The first cell is a register, the last one combinational. */
+    at = 0;
+    reads = less_than(KIB, "stack of nurimkkot_next_cell", next_cell, reads);
+    expect(said == NURIMKKOT_GIVEN, "the first cell", at);
+    at = CELLS - 1;
+    reads = less_than(KIB, "stack of nurimkkot_next_cell", next_cell, reads);
+    expect(said == NURIMKKOT_GIVEN, "the last cell", at);
+    at = 0;
+    reads = less_than(KIB, "stack of nurimkkot_next_place", next_place, reads);
+    expect(said == NURIMKKOT_GIVEN, "a place of the answer", at);
+    printf("C: stack: nurimkkot_judge %lu bytes, nurimkkot_check_lab %lu, a reader at most %lu\n", (unsigned long)judges,
+           (unsigned long)checks, (unsigned long)reads);
+    return failures != 0;
+}
