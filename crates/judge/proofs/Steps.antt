@@ -1,5 +1,5 @@
 -- One law for each way out of a stage: what the calls answered on the way gives what the stage is to find. Assumes nothing.
-use Prim.Native.Nat.{ℕ, suc, _+_, _-_, _≤_, _<_}
+use Prim.Native.Nat.{ℕ, suc, _+_, _-_, _≤_, _<_, min}
 use native.Mathlib.Numerals.{add-one}
 use native.Mathlib.Omega.{arith}
 use mathlib.Core.Path.{_≡_, refl, sym, ap, _∙_}
@@ -9,6 +9,7 @@ use lib.ListN.{length, replicate, length-replicate}
 use lib.Dec.{eqb, ltb}
 use borrow.Author.Tests.{eq-eqb, ne-eqb, eqb-true, eqb-false, not-true, lt-ltb, le-ltb, le-leb, lt-leb}
 use Rattle.sheet.specs.Lists.{concatMap, filterb, from, below, firstFrom}
+use Rattle.sheet.specs.Bytes.{beginsAt}
 use Rattle.sheet.specs.Exercise.{netCount, cellCount, exerciseNumber}
 use Rattle.sheet.specs.Answer.{answerNumber, placeCount, wrongAnswerLength, placeStart}
 use Rattle.route.specs.Table.{Table, houseBoard}
@@ -27,11 +28,13 @@ use Rattle.sheet.specs.declared.Record.{Record}
 use Rattle.judge.specs.declared.Finding.{Finding}
 use Rattle.judge.specs.declared.Part.{Part}
 use Rattle.judge.specs.declared.Verdict.{Verdict}
-use Rattle.judge.specs.Judge.{finding, legal, ofAnswer, exerciseGroup, answerGroup, cellGroup, placeGroup, labGroup, checksTo51, checks, labCells, firstBroken, firstOr, lowestIn, verdictOf, judged, bytesOf, routed}
+use Rattle.judge.specs.Judge.{finding, legal, ofAnswer, exerciseGroup, answerGroup, cellGroup, placeGroup, labGroup, checksTo51, checks, labCells, firstBroken, firstOr, lowestIn, verdictOf, judged, bytesOf, addressOf, routed}
+use Rattle.judge.specs.Culprit.{Inside, CulpritLaw}
 use Rattle.judge.specs.Stages.{numberedAs, numbered, numberedLab, placedBy, numbersOf}
 use Rattle.judge.proofs.Broken.{first-append}
 use Rattle.judge.proofs.Numbers.{known-numbered, to-51-known}
 use Rattle.judge.proofs.Groups.{then, exercise-finds, answer-finds, cells-finds, cells-places-find, to-51-finds}
+use Rattle.judge.proofs.CulpritInside.{culprit-inside}
 use Rattle.judge.proofs.FitCells.{lab-fit}
 use Rattle.judge.proofs.LabsFound.{linked, labs-are, routes-are}
 use Rattle.sheet.proofs.First.{first-most, some-below}
@@ -319,10 +322,24 @@ module _ (t : Table) (e a before : List ℕ) (f : Finding) (x : f ≡ firstBroke
         let same : firstBroken (checks t e a (length before)) ≡ g = whole ∙ rw (eq-eqb (f .number) 0 h) (sym y) in
         (rw same q, rw same w)
 
--- ---- the verdict handed out: the culprit's bytes, the route and the four numbers
-pub handed-out : (t : Table) (e a before after : List ℕ) (v : Verdict) (part : List ℕ) (number cell lab : ℕ) → t ≡ houseBoard
-    → v ≡ judged t e a (length before) → after ≡ routed t e a before → part ≡ bytesOf e a (v .culprit) → number ≡ v .number → cell ≡ v .cell → lab ≡ v .lab
+-- ---- the verdict handed out: the culprit's bytes and where they begin, the route and the four numbers
+-- a part that lies inside its sheet begins at its start
+begins-inside : (e a : List ℕ) (at-e at-a : ℕ × ℕ) (p : Part) → Inside e a p
+    → cond (p .«of_answer») (beginsAt at-a (min (p .start) (length a))) (beginsAt at-e (min (p .start) (length e))) ≡ addressOf at-e at-a p
+unfolding Inside addressOf
+begins-inside e a at-e at-a p h =
+    by-test (p .«of_answer»)
+    (λ b. let low : min (p .start) (length a) ≡ p .start = omega (arith, rw b at h) in rw (b, low))
+    (λ b. let low : min (p .start) (length e) ≡ p .start = omega (arith, rw b at h) in rw (b, low))
+
+pub handed-out : (t : Table) (e a before after : List ℕ) (v : Verdict) (part : List ℕ) (at-e at-a at : ℕ × ℕ) (number cell lab : ℕ) → t ≡ houseBoard
+    → v ≡ judged t e a (length before) → after ≡ routed t e a before → part ≡ bytesOf e a (v .culprit)
+    → at ≡ cond (v .culprit .«of_answer») (beginsAt at-a (min (v .culprit .start) (length a))) (beginsAt at-e (min (v .culprit .start) (length e)))
+    → number ≡ v .number → cell ≡ v .cell → lab ≡ v .lab
     → (part ≡ bytesOf e a (judged houseBoard e a (length before) .culprit))
-    × ((after ≡ routed houseBoard e a before) × (number ∷ cell ∷ lab ∷ v .apprentice ∷ [] ≡ numbersOf (judged houseBoard e a (length before))))
-handed-out t e a before after v part number cell lab h x y p n c l =
-    (p ∙ rw (x, h), (y ∙ rw h, rw (n, c, l, x, h)))
+    × ((at ≡ addressOf at-e at-a (judged houseBoard e a (length before) .culprit))
+    × ((after ≡ routed houseBoard e a before) × (number ∷ cell ∷ lab ∷ v .apprentice ∷ [] ≡ numbersOf (judged houseBoard e a (length before)))))
+unfolding CulpritLaw
+handed-out t e a before after v part at-e at-a at number cell lab h x y p o n c l =
+    let inside : Inside e a (v .culprit) = rw x (culprit-inside t e a (length before)) in
+    (p ∙ rw (x, h), (o ∙ begins-inside e a at-e at-a (v .culprit) inside ∙ rw (x, h), (y ∙ rw h, rw (n, c, l, x, h))))

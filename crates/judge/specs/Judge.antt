@@ -7,7 +7,7 @@ use lib.ListN.{length, getD, take, drop}
 use lib.Dec.{eqb, ltb, leb}
 use Rattle.sheet.specs.Lists.{concatMap, filterb, anyb, below}
 use Rattle.sheet.specs.Checks as sheet
-use Rattle.sheet.specs.Bytes.{partAt}
+use Rattle.sheet.specs.Bytes.{partAt, beginsAt}
 use Rattle.sheet.specs.Exercise.{cellCount, exerciseChecks, recordStart}
 use Rattle.sheet.specs.Answer.{apprentice, placeCount, answerChecks, wrongAnswerLength, placeStart}
 use Rattle.sheet.specs.declared.Record.{Record}
@@ -167,6 +167,10 @@ judged t e a r = verdictOf e a (firstBroken (checks t e a r))
 -- the bytes of the culprit
 unfoldable pub bytesOf : List ℕ → List ℕ → Part → List ℕ
 bytesOf e a p = cond (p .«of_answer») (partAt a (p .start) (p .size)) (partAt e (p .start) (p .size))
+
+-- the address at which the culprit begins: in the sheet that it is a part of, where the exercise and the answer begin at `e` and `a`
+unfoldable pub addressOf : ℕ × ℕ → ℕ × ℕ → Part → ℕ × ℕ
+addressOf e a p = beginsAt (cond (p .«of_answer») a e) (p .start)
 
 -- THE ROUTE BUFFER AT EXIT: on a refusal as it was, else eight bytes for each LAB, by number
 unfoldable pub routed : Table → List ℕ → List ℕ → List ℕ → List ℕ

@@ -7,12 +7,13 @@ ghost use Prim.Native.Nat.{_+_, _*_, _<_, _≤_, min};
 ghost use lib.ListN.{length};
 ghost use lib.Dec.{eqb, ltb};
 ghost use Rattle.sheet.specs.Lists.{concatMap, below};
+ghost use Rattle.sheet.specs.Bytes.{beginsAt};
 ghost use Rattle.sheet.specs.Exercise.{recordStart};
 ghost use Rattle.sheet.specs.Record.{knownAt};
 ghost use Rattle.sheet.specs.Answer.{placeStart};
 ghost use Rattle.route.specs.Table.{houseBoard};
 ghost use Rattle.lab.specs.Rules.{routeOf};
-ghost use Rattle.judge.specs.Judge.{finding, legal, ofExercise, ofAnswer, exerciseGroup, answerGroup, cellGroup, placeGroup, labGroup, checksTo51, labCells, firstBroken, apprenticeOf, lowestIn, culpritOf, verdictOf, judged, bytesOf, routed};
+ghost use Rattle.judge.specs.Judge.{finding, legal, ofExercise, ofAnswer, exerciseGroup, answerGroup, cellGroup, placeGroup, labGroup, checksTo51, labCells, firstBroken, apprenticeOf, lowestIn, culpritOf, verdictOf, judged, bytesOf, addressOf, routed};
 ghost use Rattle.judge.specs.Stages.{numbered, placedBy, numbersOf};
 ghost use Rattle.netlist.specs.Tables.{NONE, numberAt};
 ghost use Rattle.labs.specs.Results.{resultAt};
@@ -347,7 +348,8 @@ pub fn judge_on(table: [[bool; 5]; 6], exercise: &[u8], answer: &[u8], route: &m
 
 // The part of the sheets that a Part names.
 fn part_of<'a>(exercise: &'a [u8], answer: &'a [u8], p: Part) -> &'a [u8]
-    ensures { λ r. ⌜ now r ≡ bytesOf (now (exercise .entry)) (now (answer .entry)) p ⌝ }
+    ensures bytes { λ r. ⌜ now r ≡ bytesOf (now (exercise .entry)) (now (answer .entry)) p ⌝ }
+    ensures place { λ r. ⌜ r .ptr ≡ cond (p .«of_answer») (beginsAt (answer .entry .ptr) (min (p .start) (length (now (answer .entry))))) (beginsAt (exercise .entry .ptr) (min (p .start) (length (now (exercise .entry))))) ⌝ }
 {
     let start = p.start;
     let size = p.size;
@@ -376,7 +378,8 @@ pub fn judge<'a>(
     route: &mut [u8],
     numbers: &mut [u32; 4],
 ) -> &'a [u8]
-    ensures culprit { λ r. ⌜ now r ≡ bytesOf (now (exercise .entry)) (now (answer .entry)) (judged houseBoard (now (exercise .entry)) (now (answer .entry)) (length (now (route .entry))) .culprit) ⌝ }
+    ensures bytes { λ r. ⌜ now r ≡ bytesOf (now (exercise .entry)) (now (answer .entry)) (judged houseBoard (now (exercise .entry)) (now (answer .entry)) (length (now (route .entry))) .culprit) ⌝ }
+    ensures place { λ r. ⌜ r .ptr ≡ addressOf (exercise .entry .ptr) (answer .entry .ptr) (judged houseBoard (now (exercise .entry)) (now (answer .entry)) (length (now (route .entry))) .culprit) ⌝ }
     ensures routes { λ r. ⌜ now (route .exit) ≡ routed houseBoard (now (exercise .entry)) (now (answer .entry)) (now (route .entry)) ⌝ }
     ensures told { λ r. ⌜ now (numbers .exit) ≡ numbersOf (judged houseBoard (now (exercise .entry)) (now (answer .entry)) (length (now (route .entry)))) ⌝ }
 {
