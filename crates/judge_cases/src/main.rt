@@ -1,4 +1,4 @@
-// Judges a pair of sheets for each number of document 01, NN.lxe and NN.lxa for the number NN, and writes what the judge hands back:
+// Judges one of the samples for each number of document 01, NN.lxe and NN.lxa for the number NN, and writes what the judge hands back:
 // number, cell, LAB, apprentice and the culprit's bytes.
 use libc::STDOUT_FILENO;
 ghost use Prim.Native.Nat.{_<_, _≤_};
