@@ -11,10 +11,11 @@ ghost use lib.ListN.{length};
 ghost use Rattle.route.specs.Table.{houseBoard};
 ghost use Rattle.judge.specs.Judge.{judged, routed};
 ghost use Rattle.sheet.specs.Exercise.{exerciseNumber};
-ghost use Rattle.sheet.specs.Answer.{openingNumber};
+ghost use Rattle.sheet.specs.Record.{combinationalValues, registerValues};
+ghost use Rattle.sheet.specs.Answer.{openingNumber, placeValues};
 ghost use Rattle.reader.specs.Reader.{exerciseStepAt, nextExercise, answerStepAt, nextAnswer};
 ghost use Rattle.lab_list.specs.ListCheck.{listVerdict};
-ghost use Rattle.c_api.specs.Told.{sevenNumbers, cellTold, combinationalFields, registerFields, cellFields, placeTold, placeNumbers, placeFields};
+ghost use Rattle.c_api.specs.Told.{sevenNumbers, cellTold, cellFields, placeTold, placeFields};
 
 fn wide8(n: u8) -> u64
     ensures { λ r. ⌜ r ≡ n ⌝ }
@@ -94,7 +95,7 @@ fn flag(set: bool) -> u16
 }
 
 fn combinational_fields(c: CombinationalCell) -> [u16; 13]
-    ensures { λ r. ⌜ r ≡ combinationalFields c ⌝ }
+    ensures { λ r. ⌜ r ≡ combinationalValues c ⌝ }
 {
     let sums = flag(c.sums_cin);
     [
@@ -115,7 +116,7 @@ fn combinational_fields(c: CombinationalCell) -> [u16; 13]
 }
 
 fn register_fields(r: RegisterCell) -> [u16; 13]
-    ensures { λ f. ⌜ f ≡ registerFields r ⌝ }
+    ensures { λ f. ⌜ f ≡ registerValues r ⌝ }
 {
     [
         2,
@@ -170,7 +171,7 @@ pub extern "C" fn nurimkkot_next_cell(exercise: &[u8], at: &mut u16, cell: &mut 
 }
 
 fn place_numbers(p: Place) -> [u16; 3]
-    ensures { λ r. ⌜ r ≡ placeNumbers p ⌝ }
+    ensures { λ r. ⌜ r ≡ placeValues p ⌝ }
 {
     let x = p.x as u16;
     let y = p.y as u16;

@@ -1,13 +1,12 @@
 -- What one function after the other adds to the counters, the marks and the needs of a LAB is what one list of them adds. Assumes nothing.
-use Prim.Native.Nat.{ℕ, zero, suc, _+_, _≤_}
+use Prim.Native.Nat.{ℕ, _+_, _≤_}
 use mathlib.Core.Path.{_≡_, refl, _∙_}
-use mathlib.Core.Bool.{Bool, true, false, cond, _&&_, _||_}
+use mathlib.Core.Bool.{Bool, true, false, cond, _&&_}
 use mathlib.Core.List.{List, [], _∷_, _++_, map, append-nil, append-assoc}
 use native.Mathlib.Omega.{arith}
 use denote.Enum.Declared.{tagOf}
-use borrow.Author.Tests.{ne-eqb, lt-leb}
 use lib.ListN.{length, length-append, length-map}
-use lib.Dec.{eqb, ltb, leb}
+use lib.Dec.{eqb, ltb}
 use Rattle.sheet.specs.Lists.{filterb}
 use Rattle.sheet.specs.Signal.{isNet, netOf}
 use Rattle.sheet.specs.declared.Record.{Record}
@@ -35,12 +34,6 @@ use Rattle.lab.specs.Counts.{countsWith, usesOf, netCodes, onlyCode, bro
 pub with-cond : (d : UpToTwo) (b : Bool) (xs ys : List ℕ) → withCodes d (cond b xs ys) ≡ cond b (withCodes d xs) (withCodes d ys)
 with-cond d true xs ys = refl
 with-cond d false xs ys = refl
-
--- unconnected or GND
-pub unused : (s : ℕ) → (eqb s 0 || eqb s 1) ≡ leb s 1
-unused zero = refl
-unused (suc zero) = refl
-unused (suc (suc n)) = rw (ne-eqb (suc (suc n)) 0 (λ e. omega arith), ne-eqb (suc (suc n)) 1 (λ e. omega arith), lt-leb (suc (suc n)) 1 (omega arith))
 
 -- to a cell that is no register nothing counts
 pub no-register : (k : Counts) (c : Record) → (tagOf the-type c ≡ 1 → ⊥) → k ≡ countsWith k c

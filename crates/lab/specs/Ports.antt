@@ -5,7 +5,7 @@ use mathlib.Core.Bool.{Bool, cond, _||_}
 use mathlib.Core.List.{List, [], _∷_, map}
 use lib.Dec.{eqb}
 use Rattle.sheet.specs.Lists.{concatMap, filterb}
-use Rattle.sheet.specs.Signal.{GND, VCC, connected, isNet, netOf}
+use Rattle.sheet.specs.Signal.{UNCONNECTED, GND, VCC, connected, isNet, netOf}
 use Rattle.sheet.specs.Record.{outputs}
 use Rattle.sheet.specs.declared.RegisterCell.{RegisterCell}
 use Rattle.sheet.specs.declared.Record.{Record}
@@ -54,7 +54,7 @@ clockPair r = map (λ c. pair c (cond (connected (ena r)) (ena r) VCC)) (clock r
 
 -- at sclr and sload "unconnected and GND aren't in use (000, table 3); VCC is"
 unfoldable pub inUse : (RegisterCell → ℕ) → RegisterCell → List ℕ
-inUse port r = cond (eqb (port r) 0 || eqb (port r) GND) [] (port r ∷ [])
+inUse port r = cond (eqb (port r) UNCONNECTED || eqb (port r) GND) [] (port r ∷ [])
 
 -- a net in either polarity: "constants need no entry"
 unfoldable pub needed : (RegisterCell → ℕ) → RegisterCell → List ℕ

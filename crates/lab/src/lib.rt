@@ -9,7 +9,7 @@ ghost use mathlib.Core.Path.{_≡_};
 ghost use mathlib.Core.Bool.{Bool, cond, _||_};
 ghost use mathlib.Core.List.{[], _∷_, map};
 ghost use lib.Dec.{eqb};
-ghost use Rattle.sheet.specs.Signal.{GND, VCC, connected, isNet};
+ghost use Rattle.sheet.specs.Signal.{UNCONNECTED, GND, VCC, connected, isNet};
 ghost use Rattle.sheet.specs.declared.Record.«the-variants».{Combinational, Register};
 ghost use Rattle.distinct.specs.UpToTwo.{withCodes, codesOf};
 ghost use Rattle.distinct.specs.Nets.{reads, drives, markAll};
@@ -84,9 +84,11 @@ fn pair(clk: Signal, ena: Signal) -> u32
 
 // A synchronous port's signal where it is in use: neither unconnected nor GND.
 fn with_in_use(codes: UpToTwo, signal: Signal) -> UpToTwo
-    ensures { λ r. ⌜ r ≡ withCodes codes (cond (eqb (signal .0) 0 || eqb (signal .0) GND) [] (signal .0 ∷ [])) ⌝ }
+    ensures { λ r. ⌜ r ≡ withCodes codes (cond (eqb (signal .0) UNCONNECTED || eqb (signal .0) GND) [] (signal .0 ∷ [])) ⌝ }
 {
-    if signal.0 <= 1 {
+    let unconnected = signal.0 == Signal::UNCONNECTED.0;
+    let ground = signal.0 == Signal::GND.0;
+    if unconnected | ground {
         return codes;
     }
     codes.with(signal.0 as u32)

@@ -2,7 +2,8 @@
 -- `next_place`, and `read_record` and `read_place`: each pair is walked once (`OpenWalk.antt`, `NextWalk.antt`, `ReadWalk.antt`), over a `Kind`.
 --     Kind                      the struct that a reader is, its fields, and the definitions of which number applies, what it gives, where it goes on
 --     exercise, answer          the two
---     headSpec, sheetSpec       the contract of a function that takes a slice, and of one that takes a slice and a number, and answers f of them
+--     headSpec, sheetSpec       the contract of a function that takes a slice and answers f of it, and of one that takes a slice and a number
+--     stepEns, afterEns         what the two of the latter ensure
 --     nextEnded, nextClauses    the signature of a function to which the struct is lent, and its contract, over what it ensures
 --     readEnded, readClauses    the same of one that takes a slice and a number lent
 --     openEnded, openClauses    the same of one that takes a slice and a number lent, and makes the struct of the slice
@@ -39,7 +40,7 @@ use denote.Exit.{yes}
 use denote.Triple.Clauses.{Ended, Clauses, AtExit, closing}
 use Rattle.sheet.specs.Exercise.{exerciseNumber}
 use Rattle.sheet.specs.Answer.{openingNumber}
-use Rattle.reader.specs.Reader.{exerciseStepAt, nextExercise, answerStepAt, nextAnswer}
+use Rattle.reader.specs.Reader.{stepNumber, stepValues, exerciseStepAt, exerciseNumberAt, exerciseValuesAt, nextExercise, placeStepNumber, placeStepValues, answerStepAt, answerNumberAt, answerValuesAt, nextAnswer}
 use Rattle.reader.specs.declared.ExerciseReader.{ExerciseReader}
 use Rattle.reader.specs.declared.AnswerReader.{AnswerReader}
 use Rattle.reader.proofs.ExerciseReader as T
@@ -68,6 +69,11 @@ pub record Kind : Type 2 where
   pub opens : List ℕ → ℕ
   pub stepAt : List ℕ → ℕ → Step .Denot
   pub nextAt : List ℕ → ℕ → ℕ
+  -- document 01's number and values of what it gives, and of what stands at a number
+  pub number : Step .Denot → ℕ
+  pub numberAt : List ℕ → ℕ → ℕ
+  pub values : Step .Denot → List ℕ
+  pub valuesAt : List ℕ → ℕ → List ℕ
 
 -- a goal P ∗ Q, where Q is had for nothing
 pub says-by : {M : Type 1} {𝓤 : URA M} {H : Heap 𝓤} {A : Atoms 𝓤} {K : Type 0} {W : Given 𝓤 H A} {Γ : List (Item 𝓤)} → K → {P Q : SProp 𝓤} → ent 𝓤 (emp 𝓤) Q → Step K W Γ (prop P) Γ (prop (sep 𝓤 P Q))
@@ -117,12 +123,24 @@ module _ (X : RattleType) where
   abbrev pub sheetEnded : Ended
   sheetEnded = record { signature = record { lifetimes = 1; outlives = []; params = shrSliceOf (0 ∷ []) tt (plain (λ _. u8)) ∷ plain (λ _. u16) ∷ []; result = plain (λ _. X) }; kept = (yes, (yes, tt)) }
 
-  module _ {M : Type 1} (𝓤 : URA M) (H : Heap 𝓤) (A : Atoms 𝓤) (f : List ℕ → ℕ → X .Denot) where
+  -- what a contract of it ensures, of the bytes and the number
+  abbrev pub SheetEns : {M : Type 1} → URA M → Type 2
+  SheetEns 𝓤 = List ℕ → ℕ → X .Denot → SProp 𝓤
+
+  module _ {M : Type 1} (𝓤 : URA M) (H : Heap 𝓤) (A : Atoms 𝓤) (ens : SheetEns 𝓤) where
     abbrev pub sheetClauses : Clauses 𝓤 sheetEnded
-    sheetClauses κs a = record { ghost = Unit {0}; requires = λ _. emp 𝓤; ensures = λ _ r _. fact 𝓤 (r ≡ f (now (a .0)) (a .1 .0)) }
+    sheetClauses κs a = record { ghost = Unit {0}; requires = λ _. emp 𝓤; ensures = λ _ r _. ens (now (a .0)) (a .1 .0) r }
 
     abbrev pub sheetSpec : Contract 𝓤
     sheetSpec = tripleOf 𝓤 H A (sheetEnded .signature) (closing 𝓤 H A sheetEnded sheetClauses)
+
+module _ {M : Type 1} (𝓤 : URA M) (K : Kind) where
+  -- of what stands at a number: the step, its number and its values; of the number after it: the number
+  abbrev pub stepEns : SheetEns (K .Step) 𝓤
+  stepEns s n r = sep 𝓤 (fact 𝓤 (r ≡ K .stepAt s n)) (sep 𝓤 (fact 𝓤 (K .number r ≡ K .numberAt s n)) (fact 𝓤 (K .values r ≡ K .valuesAt s n)))
+
+  abbrev pub afterEns : SheetEns u16 𝓤
+  afterEns s n r = fact 𝓤 (r ≡ K .nextAt s n)
 
 -- ---- a function to which the struct is lent
 -- `&'s mut Reader<'a>`
@@ -177,6 +195,10 @@ exercise = record {
   opens = exerciseNumber;
   stepAt = exerciseStepAt;
   nextAt = nextExercise;
+  number = stepNumber;
+  numberAt = exerciseNumberAt;
+  values = stepValues;
+  valuesAt = exerciseValuesAt;
 }
 
 abbrev pub answer : Kind
@@ -193,4 +215,8 @@ answer = record {
   opens = openingNumber;
   stepAt = answerStepAt;
   nextAt = nextAnswer;
+  number = placeStepNumber;
+  numberAt = answerNumberAt;
+  values = placeStepValues;
+  valuesAt = answerValuesAt;
 }

@@ -46,7 +46,7 @@ use denote.Triple.Entry.{Args, onEntry}
 use denote.Triple.Spec.{Meets}
 use denote.Triple.Walked.{Stays, stay-ref, walkOf, goes-ref, ends-at, walked, walk-meets}
 use denote.Triple.Clauses.{atExit, ensured, lasts, closing}
-use Rattle.reader.proofs.Kind.{Kind, Fields, says-by, typeAt, rowAt, lawsAt, copyAt, bytesTy, readerTy, mach, sheetEnded, sheetClauses, sheetSpec, behind, nextEnded, NextEns, nextClauses}
+use Rattle.reader.proofs.Kind.{Kind, Fields, says-by, typeAt, rowAt, lawsAt, copyAt, bytesTy, readerTy, mach, sheetEnded, SheetEns, sheetClauses, sheetSpec, stepEns, afterEns, behind, nextEnded, NextEns, nextClauses}
 
 abbrev pub nextFunction : Kind → Name → Name → Fn
 nextFunction K step-key next-key = record {
@@ -72,10 +72,10 @@ module _ {M : Type 1} (𝓤 : URA M) (H : Heap 𝓤) (A : Atoms 𝓤) (W : Given
     → ent 𝓤 (emp 𝓤) (ens κs a r (atExit (nextEnded K) κs a (K .make (K .fields (a .0 .now) .0) n, tt)))) (step-key next-key : Name) where
   -- the contracts that the walk cites
   abbrev StepAt : Contract 𝓤
-  StepAt = sheetSpec (K .Step) 𝓤 H A (K .stepAt)
+  StepAt = sheetSpec (K .Step) 𝓤 H A (stepEns 𝓤 K)
 
   abbrev NextAt : Contract 𝓤
-  NextAt = sheetSpec u16 𝓤 H A (K .nextAt)
+  NextAt = sheetSpec u16 𝓤 H A (afterEns 𝓤 K)
 
   module _ (κ κ′ : Lft) (q q′ : Share) (bounds : AllOutlive 2 (nextEnded K .signature .outlives) (κ, (κ′, tt))) (b o : ℕ) (γ : GName) (h : K .Reader) where
     abbrev x : RefT (K .Reader) × Unit {0}
@@ -119,8 +119,8 @@ module _ {M : Type 1} (𝓤 : URA M) (H : Heap 𝓤) (A : Atoms 𝓤) (W : Given
     abbrev Passed : Fml
     Passed = owns (ShrSlice (named 0) κ′ u8 ∷ u16 ∷ []) (s, (n, tt)) passed
 
-    abbrev to : (X : RattleType) (f : List ℕ → ℕ → X .Denot) → sheetSpec X 𝓤 H A f .Ghost
-    to X f = (((κ′, tt), (q′, tt), tt, (s, (n, tt)), passed), tt)
+    abbrev to : (X : RattleType) (says : SheetEns X 𝓤) → sheetSpec X 𝓤 H A says .Ghost
+    to X says = (((κ′, tt), (q′, tt), tt, (s, (n, tt)), passed), tt)
 
     -- the struct is Copy: of one copy of what it owns comes what a callee is passed, and the other is kept
     apart : n < 2 ^ 16 → ent 𝓤 (sem 𝓤 H A Own) (sep 𝓤 (sem 𝓤 H A Passed) (sem 𝓤 H A Own))
@@ -130,14 +130,18 @@ module _ {M : Type 1} (𝓤 : URA M) (H : Heap 𝓤) (A : Atoms 𝓤) (W : Given
         -- [what the slice owns; what the number owns; what the struct owns]
         move ! (1 ∷ []) $ drop ! $ nothing ! $ owned ! u16 (Is u16) (uint-makes 𝓤 H A W w16) n _ (refl, fits) $ fjoin ! $ move ! (1 ∷ 0 ∷ []) $ fjoin ! $ frame ! $ done !)
 
-    goes : (X : RattleType) (f : List ℕ → ℕ → X .Denot) → n < 2 ^ 16 → ent 𝓤 (⋆ 𝓤 H A (‵ Own ∷ (‵ (flft κ′ q′) ⊛ ‵ ftrue) ∷ [])) (sep 𝓤 (sheetSpec X 𝓤 H A f .pre (to X f)) (sem 𝓤 H A Own))
-    goes X f fits =
+    goes : (X : RattleType) (says : SheetEns X 𝓤) → n < 2 ^ 16 → ent 𝓤 (⋆ 𝓤 H A (‵ Own ∷ (‵ (flft κ′ q′) ⊛ ‵ ftrue) ∷ [])) (sep 𝓤 (sheetSpec X 𝓤 H A says .pre (to X says)) (sem 𝓤 H A Own))
+    goes X says fits =
         qed W (‵ Own ∷ (‵ (flft κ′ q′) ⊛ ‵ ftrue) ∷ []) ∵ use1 W (‵ Passed ⊛ ‵ Own) (apart fits) $ split ! $ move ! (2 ∷ 0 ∷ []) $
-        use2 W (raw (sheetSpec X 𝓤 H A f .pre (to X f))) (qed W ((‵ (flft κ′ q′) ⊛ ‵ ftrue) ∷ ‵ Passed ∷ []) ∵ join ! $ frame ! $ done !) $ frame ! $ done !
+        use2 W (raw (sheetSpec X 𝓤 H A says .pre (to X says))) (qed W ((‵ (flft κ′ q′) ⊛ ‵ ftrue) ∷ ‵ Passed ∷ []) ∵ join ! $ frame ! $ done !) $ frame ! $ done !
 
-    -- of a callee's `ensured`, the clause alone: it has no `&mut`, so what is said of last values is dropped
-    said : (X : RattleType) (f : List ℕ → ℕ → X .Denot) (r : X .Denot) → ent 𝓤 (ensured 𝓤 H A (sheetEnded X) (sheetClauses X 𝓤 H A f) (κ′, tt) (s, (n, tt)) tt r) (fact 𝓤 (r ≡ f (now s) n))
-    said X f r = exE 𝓤 _ (λ ws. snd∗ 𝓤 (sem 𝓤 H A (lasts (sheetEnded X) (κ′, tt) (s, (n, tt)) ws)) (fact 𝓤 (r ≡ f (now s) n)))
+    -- of a callee's `ensured`, a fact of its clauses: it has no `&mut`, so what is said of last values is dropped
+    said : (X : RattleType) (says : SheetEns X 𝓤) (r : X .Denot) (φ : Type 0) → ent 𝓤 (says (now s) n r) (fact 𝓤 φ) → ent 𝓤 (ensured 𝓤 H A (sheetEnded X) (sheetClauses X 𝓤 H A says) (κ′, tt) (s, (n, tt)) tt r) (fact 𝓤 φ)
+    said X says r φ tells = exE 𝓤 _ (λ ws. via 𝓤 (says (now s) n r) (snd∗ 𝓤 (sem 𝓤 H A (lasts (sheetEnded X) (κ′, tt) (s, (n, tt)) ws)) (says (now s) n r)) tells)
+
+    -- of the clauses of a step, the one that says which it is
+    told : (r : K .Step .Denot) → ent 𝓤 (stepEns 𝓤 K (now s) n r) (fact 𝓤 (r ≡ K .stepAt (now s) n))
+    told r = fst∗ 𝓤 (fact 𝓤 (r ≡ K .stepAt (now s) n)) (sep 𝓤 (fact 𝓤 (K .number r ≡ K .numberAt (now s) n)) (fact 𝓤 (K .values r ≡ K .valuesAt (now s) n)))
 
     -- the struct at the number m: what the slice owns is kept, and the number's facts are made anew
     abbrev moved : ℕ → K .Reader
@@ -171,20 +175,20 @@ module _ {M : Type 1} (𝓤 : URA M) (H : Heap 𝓤) (A : Atoms 𝓤) (W : Given
           assigns ! (of-opd ! (load ! (from ! (hop ! (look ! 15 refl) (fld ! refl (stop !)))) (look-in ! 0 (sub ! 0 refl (whole !))))) (from ! (stop !)) (init ! 11 refl (tt, typed was .1 .0)) $
           assigns ! (of-opd ! (load ! (from ! (hop ! (look ! 15 refl) (fld ! refl (stop !)))) (look-in ! 0 (sub ! 1 refl (whole !))))) (from ! (stop !)) (init ! 9 refl (tt, typed was .1 .1 .0)) $
           -- the first call
-          move ! (1 ∷ 5 ∷ []) $ use2 W (raw (StepAt .pre (to (K .Step) (K .stepAt))) ⊛ ‵ Own) (goes (K .Step) (K .stepAt) (typed was .1 .1 .0 .fits)) $ split ! $
-          calls-at ! fm StepAt known-step (to (K .Step) (K .stepAt)) (and-then ! (load ! (from ! (stop !)) (look ! 11 refl)) (and-then ! (load ! (from ! (stop !)) (look ! 9 refl)) (no-more !))) (λ u.
-          use1 W (later (some (λ (r : K .Step .Denot). ((‵ (flft κ′ q′) ⊛ ‵ ftrue) ⊛ ‵ (K .Step .own r (u ∷ []))) ⊛ raw (ensured 𝓤 H A (sheetEnded (K .Step)) (sheetClauses (K .Step) 𝓤 H A (K .stepAt)) (κ′, tt) (s, (n, tt)) tt r)))) (id⊢ 𝓤 _) $ await ! tt $ pick ! (λ r.
-          split ! $ move ! (1 ∷ []) $ use1 W (raw (fact 𝓤 (r ≡ K .stepAt (now s) n))) (said (K .Step) (K .stepAt) r) $ heard ! (r ≡ K .stepAt (now s) n) (λ e. split ! $ move ! (1 ∷ []) $
+          move ! (1 ∷ 5 ∷ []) $ use2 W (raw (StepAt .pre (to (K .Step) (stepEns 𝓤 K))) ⊛ ‵ Own) (goes (K .Step) (stepEns 𝓤 K) (typed was .1 .1 .0 .fits)) $ split ! $
+          calls-at ! fm StepAt known-step (to (K .Step) (stepEns 𝓤 K)) (and-then ! (load ! (from ! (stop !)) (look ! 11 refl)) (and-then ! (load ! (from ! (stop !)) (look ! 9 refl)) (no-more !))) (λ u.
+          use1 W (later (some (λ (r : K .Step .Denot). ((‵ (flft κ′ q′) ⊛ ‵ ftrue) ⊛ ‵ (K .Step .own r (u ∷ []))) ⊛ raw (ensured 𝓤 H A (sheetEnded (K .Step)) (sheetClauses (K .Step) 𝓤 H A (stepEns 𝓤 K)) (κ′, tt) (s, (n, tt)) tt r)))) (id⊢ 𝓤 _) $ await ! tt $ pick ! (λ r.
+          split ! $ move ! (1 ∷ []) $ use1 W (raw (fact 𝓤 (r ≡ K .stepAt (now s) n))) (said (K .Step) (stepEns 𝓤 K) r (r ≡ K .stepAt (now s) n) (told r)) $ heard ! (r ≡ K .stepAt (now s) n) (λ e. split ! $ move ! (1 ∷ []) $
           -- [the step; 'a's token; what the struct owns; its cell; the open borrow; obs; auth; true; _5; …; _4; …; _3; …; room for _2; …; _1; …; room for _0; …]
           peeks ! (K .Step) (Is (K .Step)) (shows 𝓤 H A (K .Step)) r (u ∷ []) (λ is.
           land ! (from ! (stop !)) (init ! 14 refl (K .step-typed 𝓤 H A W r u is)) $
           assigns ! (of-opd ! (load ! (from ! (hop ! (look ! 16 refl) (fld ! refl (stop !)))) (look-in ! 3 (sub ! 0 refl (whole !))))) (from ! (stop !)) (store ! 12 refl (tt, typed was .1 .0)) $
           assigns ! (of-opd ! (load ! (from ! (hop ! (look ! 16 refl) (fld ! refl (stop !)))) (look-in ! 3 (sub ! 1 refl (whole !))))) (from ! (stop !)) (init ! 8 refl (tt, typed was .1 .1 .0)) $
           -- the second call
-          move ! (2 ∷ 1 ∷ []) $ use2 W (raw (NextAt .pre (to u16 (K .nextAt))) ⊛ ‵ Own) (goes u16 (K .nextAt) (typed was .1 .1 .0 .fits)) $ split ! $
-          calls-at ! fm NextAt known-next (to u16 (K .nextAt)) (and-then ! (load ! (from ! (stop !)) (look ! 12 refl)) (and-then ! (load ! (from ! (stop !)) (look ! 8 refl)) (no-more !))) (λ u′.
-          use1 W (later (some (λ (m : ℕ). ((‵ (flft κ′ q′) ⊛ ‵ ftrue) ⊛ ‵ (u16 .own m (u′ ∷ []))) ⊛ raw (ensured 𝓤 H A (sheetEnded u16) (sheetClauses u16 𝓤 H A (K .nextAt)) (κ′, tt) (s, (n, tt)) tt m)))) (id⊢ 𝓤 _) $ await ! tt $ pick ! (λ m.
-          split ! $ move ! (1 ∷ []) $ use1 W (raw (fact 𝓤 (m ≡ K .nextAt (now s) n))) (said u16 (K .nextAt) m) $ heard ! (m ≡ K .nextAt (now s) n) (λ e′. split ! $ move ! (1 ∷ []) $
+          move ! (2 ∷ 1 ∷ []) $ use2 W (raw (NextAt .pre (to u16 (afterEns 𝓤 K))) ⊛ ‵ Own) (goes u16 (afterEns 𝓤 K) (typed was .1 .1 .0 .fits)) $ split ! $
+          calls-at ! fm NextAt known-next (to u16 (afterEns 𝓤 K)) (and-then ! (load ! (from ! (stop !)) (look ! 12 refl)) (and-then ! (load ! (from ! (stop !)) (look ! 8 refl)) (no-more !))) (λ u′.
+          use1 W (later (some (λ (m : ℕ). ((‵ (flft κ′ q′) ⊛ ‵ ftrue) ⊛ ‵ (u16 .own m (u′ ∷ []))) ⊛ raw (ensured 𝓤 H A (sheetEnded u16) (sheetClauses u16 𝓤 H A (afterEns 𝓤 K)) (κ′, tt) (s, (n, tt)) tt m)))) (id⊢ 𝓤 _) $ await ! tt $ pick ! (λ m.
+          split ! $ move ! (1 ∷ []) $ use1 W (raw (fact 𝓤 (m ≡ K .nextAt (now s) n))) (said u16 (afterEns 𝓤 K) m (m ≡ K .nextAt (now s) n) (id⊢ 𝓤 _)) $ heard ! (m ≡ K .nextAt (now s) n) (λ e′. split ! $ move ! (1 ∷ []) $
           -- [the number; 'a's token; what the struct owns; the step; the struct's cell; the open borrow; obs; auth; true; _5; …; _4; …; _3; …; _2; …; _1; …; room for _0; …]
           peeks ! u16 (Is u16) (shows 𝓤 H A u16) m (u′ ∷ []) (λ is′.
           land ! (from ! (stop !)) (store ! 11 refl (uint-lawful 𝓤 H A W w16 .typed m _ is′ .0)) $ rewrite ! 11 (λ (w : Val). ‵ (fat fullShare (tyInt w16) l₄ 0 w)) (ap only (is′ .0)) refl $ drop ! $

@@ -6,8 +6,8 @@ use mathlib.Core.List.{List, [], _∷_, map}
 use lib.Dec.{leb}
 use Rattle.sheet.specs.Lists.{below}
 use Rattle.sheet.specs.Exercise.{netCount, cellCount}
-use Rattle.sheet.specs.Record.{recordAt}
-use Rattle.sheet.specs.Answer.{placeCount, placedAt}
+use Rattle.sheet.specs.Record.{recordAt, recordNumber, recordValues, combinationalValues, registerValues}
+use Rattle.sheet.specs.Answer.{placeCount, placedAt, placedNumber, placedValues, placeValues}
 use Rattle.sheet.specs.declared.Record.{Record}
 use Rattle.sheet.specs.declared.Record.the-variants as Kind
 use Rattle.sheet.specs.declared.Placed.{Placed}
@@ -23,6 +23,20 @@ stepOf (Kind.Combinational c) = Cell.Combinational c
 stepOf (Kind.Register c) = Cell.Register c
 stepOf Kind.Malformed = Cell.Broken
 
+-- document 01's number for each case of a step: 15 for a record that breaks its layout, 0 for a cell and at the end
+abbrev pub stepNumber : ExerciseStep → ℕ
+stepNumber (Cell.Combinational c) = 0
+stepNumber (Cell.Register c) = 0
+stepNumber Cell.Broken = 15
+stepNumber Cell.End = 0
+
+-- its values for each case: those of the cell, none where none is given
+abbrev pub stepValues : ExerciseStep → List ℕ
+stepValues (Cell.Combinational c) = combinationalValues c
+stepValues (Cell.Register c) = registerValues c
+stepValues Cell.Broken = []
+stepValues Cell.End = []
+
 -- the number after a record: the same if the record breaks its layout
 abbrev pub afterRecord : Record → ℕ → ℕ
 afterRecord (Kind.Combinational c) at = at + 1
@@ -31,6 +45,13 @@ afterRecord Kind.Malformed at = at
 
 unfoldable pub exerciseStepAt : List ℕ → ℕ → ExerciseStep
 exerciseStepAt e at = cond (leb (cellCount e) at) Cell.End (stepOf (recordAt (netCount e) e at))
+
+-- the number and the values of what stands at a number: those of the record, and none at the end
+unfoldable pub exerciseNumberAt : List ℕ → ℕ → ℕ
+exerciseNumberAt e at = cond (leb (cellCount e) at) 0 (recordNumber (recordAt (netCount e) e at))
+
+unfoldable pub exerciseValuesAt : List ℕ → ℕ → List ℕ
+exerciseValuesAt e at = cond (leb (cellCount e) at) [] (recordValues (recordAt (netCount e) e at))
 
 unfoldable pub nextExercise : List ℕ → ℕ → ℕ
 nextExercise e at = cond (leb (cellCount e) at) at (afterRecord (recordAt (netCount e) e at) at)
@@ -67,12 +88,30 @@ abbrev pub placeStepOf : Placed → AnswerStep
 placeStepOf (Spot.At p) = Where.Place p
 placeStepOf Spot.OutOfRange = Where.Broken
 
+-- document 01's number for each case of a step: 26 for a place record that is out of range, 0 for a place and at the end
+abbrev pub placeStepNumber : AnswerStep → ℕ
+placeStepNumber (Where.Place p) = 0
+placeStepNumber Where.Broken = 26
+placeStepNumber Where.End = 0
+
+-- its values for each case: those of the place, none where none is given
+abbrev pub placeStepValues : AnswerStep → List ℕ
+placeStepValues (Where.Place p) = placeValues p
+placeStepValues Where.Broken = []
+placeStepValues Where.End = []
+
 abbrev pub afterPlace : Placed → ℕ → ℕ
 afterPlace (Spot.At p) at = at + 1
 afterPlace Spot.OutOfRange at = at
 
 unfoldable pub answerStepAt : List ℕ → ℕ → AnswerStep
 answerStepAt a at = cond (leb (placeCount a) at) Where.End (placeStepOf (placedAt a at))
+
+unfoldable pub answerNumberAt : List ℕ → ℕ → ℕ
+answerNumberAt a at = cond (leb (placeCount a) at) 0 (placedNumber (placedAt a at))
+
+unfoldable pub answerValuesAt : List ℕ → ℕ → List ℕ
+answerValuesAt a at = cond (leb (placeCount a) at) [] (placedValues (placedAt a at))
 
 unfoldable pub nextAnswer : List ℕ → ℕ → ℕ
 nextAnswer a at = cond (leb (placeCount a) at) at (afterPlace (placedAt a at) at)

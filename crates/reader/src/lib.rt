@@ -1,7 +1,7 @@
 ghost use mathlib.Core.Path.{_≡_};
 ghost use Rattle.sheet.specs.Exercise.{exerciseNumber};
 ghost use Rattle.sheet.specs.Answer.{openingNumber};
-ghost use Rattle.reader.specs.Reader.{exerciseStepAt, nextExercise, answerStepAt, nextAnswer};
+ghost use Rattle.reader.specs.Reader.{stepNumber, stepValues, exerciseStepAt, exerciseNumberAt, exerciseValuesAt, nextExercise, placeStepNumber, placeStepValues, answerStepAt, answerNumberAt, answerValuesAt, nextAnswer};
 
 // An exercise, and the number of the record that comes next. The functions over a reader are thin: the work is done on the slice
 // and the number.
@@ -42,18 +42,14 @@ pub fn exercise_opens(exercise: &[u8]) -> u8
 pub fn answer_opens(answer: &[u8]) -> u8
     ensures { λ r. ⌜ r ≡ openingNumber (now (answer .entry)) ⌝ }
 {
-    match sheet::answer_header(answer) {
-        sheet::AnswerHeader::Refused(number) => number,
-        sheet::AnswerHeader::Given {
-            apprentice: _,
-            cells: _,
-        } => 0,
-    }
+    sheet::opening_number(answer)
 }
 
 // What stands at a number in an exercise.
 pub fn exercise_step(exercise: &[u8], at: u16) -> ExerciseStep
-    ensures { λ r. ⌜ r ≡ exerciseStepAt (now (exercise .entry)) at ⌝ }
+    ensures says { λ r. ⌜ r ≡ exerciseStepAt (now (exercise .entry)) at ⌝ }
+    ensures number { λ r. ⌜ stepNumber r ≡ exerciseNumberAt (now (exercise .entry)) at ⌝ }
+    ensures values { λ r. ⌜ stepValues r ≡ exerciseValuesAt (now (exercise .entry)) at ⌝ }
 {
     if sheet::cell_count(exercise) <= at {
         return ExerciseStep::End;
@@ -81,7 +77,9 @@ pub fn exercise_next(exercise: &[u8], at: u16) -> u16
 
 // What stands at a number in an answer.
 pub fn answer_step(answer: &[u8], at: u16) -> AnswerStep
-    ensures { λ r. ⌜ r ≡ answerStepAt (now (answer .entry)) at ⌝ }
+    ensures says { λ r. ⌜ r ≡ answerStepAt (now (answer .entry)) at ⌝ }
+    ensures number { λ r. ⌜ placeStepNumber r ≡ answerNumberAt (now (answer .entry)) at ⌝ }
+    ensures values { λ r. ⌜ placeStepValues r ≡ answerValuesAt (now (answer .entry)) at ⌝ }
 {
     if sheet::place_count(answer) <= at {
         return AnswerStep::End;

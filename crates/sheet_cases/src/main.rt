@@ -1,8 +1,6 @@
 // Runs the decoders at both sides of every limit of document 01 and writes what they answer, a line a case.
 use libc::STDOUT_FILENO;
-use sheet::AnswerHeader;
 use sheet::CellNumber;
-use sheet::ExerciseHeader;
 use sheet::Placed;
 use sheet::Record;
 use sheet::Signal;
@@ -54,28 +52,28 @@ fn answer(version: u16, low: u16, high: u16, cells: u16) -> [u8; 2100] {
 
 fn show_exercise(label: &[u8], s: &[u8]) {
     word(label);
-    match sheet::exercise_header(s) {
-        ExerciseHeader::Counts { nets, cells } => {
-            word(b" nets");
-            number(nets as u64);
-            word(b" cells");
-            number(cells as u64);
-        }
-        ExerciseHeader::Refused(n) => number(n as u64),
+    let refused = sheet::exercise_number(s);
+    if refused == 0 {
+        word(b" nets");
+        number(sheet::net_count(s) as u64);
+        word(b" cells");
+        number(sheet::cell_count(s) as u64);
+    } else {
+        number(refused as u64);
     }
     line_end();
 }
 
 fn show_answer(label: &[u8], s: &[u8]) {
     word(label);
-    match sheet::answer_header(s) {
-        AnswerHeader::Given { apprentice, cells } => {
-            word(b" apprentice");
-            number(apprentice as u64);
-            word(b" cells");
-            number(cells as u64);
-        }
-        AnswerHeader::Refused(n) => number(n as u64),
+    let refused = sheet::opening_number(s);
+    if refused == 0 {
+        word(b" apprentice");
+        number(sheet::apprentice(s) as u64);
+        word(b" cells");
+        number(sheet::place_count(s) as u64);
+    } else {
+        number(refused as u64);
     }
     word(b" without length");
     number(sheet::answer_number(s) as u64);

@@ -1,9 +1,9 @@
--- `lab::with_in_use` meets its contract: a code is unconnected or GND where it is at most 1.
+-- `lab::with_in_use` meets its contract: the two tests are those of the definition.
 -- Assumes nothing.
 use borrow.Author.Needs.{needs}
 use Rattle.distinct.specs.UpToTwo.{withCodes}
 use Rattle.sheet.proofs.Laws.{compared}
-use Rattle.lab.proofs.Steps.{with-cond, unused}
+use Rattle.lab.proofs.Steps.{with-cond}
 use Rattle.lab.proofs.with_in_use.Statement.{statement}
 use Rattle.lab.proofs.with_in_use.Tie as tie
 
@@ -12,7 +12,7 @@ unfolding withCodes
 with-in-use-spec =
     tie.close
     (tie.spec
-    (λ c. rw (with-cond, unused) (search compared depth 20))  -- returns
+    (λ c. rw with-cond (search compared depth 20))  -- returns
     (λ c. search needs)  -- cast-with
     (λ c κs. search needs)  -- with-requires
-    (λ c. rw (with-cond, unused) (search compared depth 20)))  -- returns-2
+    (λ c. rw with-cond (search compared depth 20)))  -- returns-2

@@ -18,5 +18,5 @@ answer-next-spec =
     (λ c. search needs)  -- enum-told
     (λ c. search needs)  -- add-result
     (λ c. search needs)  -- enum-told-2
-    (λ c. passes _ _ _ (lt-by _ _ _ (c .before .before .before .before .place-count .ensures) (c .before .before .before .if1 .left)) (ap (λ p. afterPlace p (c .before .before .before .before .before .before .args .at)) (sym (c .enum-told .given .1) ∙ c .before .before .place-at .ensures)))  -- returns-2
-    (λ c. passes _ _ _ (lt-by _ _ _ (c .before .before .before .before .place-count .ensures) (c .before .before .before .if1 .left)) (ap (λ p. afterPlace p (c .before .before .before .before .before .before .args .at)) (sym (c .enum-told2 .given .1) ∙ c .before .before .place-at .ensures))))  -- returns-3
+    (λ c. passes _ _ _ (lt-by _ _ _ (c .before .before .before .before .place-count .ensures) (c .before .before .before .if1 .left)) (ap (λ p. afterPlace p (c .before .before .before .before .before .before .args .at)) (sym (c .enum-told .given .1) ∙ c .before .before .place-at .ensures .0)))  -- returns-2
+    (λ c. passes _ _ _ (lt-by _ _ _ (c .before .before .before .before .place-count .ensures) (c .before .before .before .if1 .left)) (ap (λ p. afterPlace p (c .before .before .before .before .before .before .args .at)) (sym (c .enum-told2 .given .1) ∙ c .before .before .place-at .ensures .0))))  -- returns-3

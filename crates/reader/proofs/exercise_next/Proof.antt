@@ -22,6 +22,6 @@ exercise-next-spec =
     (λ c. search needs)  -- enum-told-2
     (λ c. search needs)  -- add-result-2
     (λ c. search needs)  -- enum-told-3
-    (λ c. passes _ _ _ (lt-by _ _ _ (c .before .before .before .before .before .cell-count .ensures) (c .before .before .before .before .if1 .left)) (ap (λ r. afterRecord r (c .before .before .before .before .before .before .before .args .at)) (record-told _ _ _ _ (Combinational _) (c .before .before .before .net-count .ensures) (c .before .before .record-at .ensures) (c .enum-told .given .1))))  -- returns-2
-    (λ c. passes _ _ _ (lt-by _ _ _ (c .before .before .before .before .before .cell-count .ensures) (c .before .before .before .before .if1 .left)) (ap (λ r. afterRecord r (c .before .before .before .before .before .before .before .args .at)) (record-told _ _ _ _ (Register _) (c .before .before .before .net-count .ensures) (c .before .before .record-at .ensures) (c .enum-told2 .given .1))))  -- returns-3
-    (λ c. passes _ _ _ (lt-by _ _ _ (c .before .before .before .before .before .cell-count .ensures) (c .before .before .before .before .if1 .left)) (ap (λ r. afterRecord r (c .before .before .before .before .before .before .before .args .at)) (record-told _ _ _ _ Malformed (c .before .before .before .net-count .ensures) (c .before .before .record-at .ensures) (c .enum-told3 .given .1)))))  -- returns-4
+    (λ c. passes _ _ _ (lt-by _ _ _ (c .before .before .before .before .before .cell-count .ensures) (c .before .before .before .before .if1 .left)) (ap (λ r. afterRecord r (c .before .before .before .before .before .before .before .args .at)) (record-told _ _ _ _ (Combinational _) (c .before .before .before .net-count .ensures) (c .before .before .record-at .ensures .0) (c .enum-told .given .1))))  -- returns-2
+    (λ c. passes _ _ _ (lt-by _ _ _ (c .before .before .before .before .before .cell-count .ensures) (c .before .before .before .before .if1 .left)) (ap (λ r. afterRecord r (c .before .before .before .before .before .before .before .args .at)) (record-told _ _ _ _ (Register _) (c .before .before .before .net-count .ensures) (c .before .before .record-at .ensures .0) (c .enum-told2 .given .1))))  -- returns-3
+    (λ c. passes _ _ _ (lt-by _ _ _ (c .before .before .before .before .before .cell-count .ensures) (c .before .before .before .before .if1 .left)) (ap (λ r. afterRecord r (c .before .before .before .before .before .before .before .args .at)) (record-told _ _ _ _ Malformed (c .before .before .before .net-count .ensures) (c .before .before .record-at .ensures .0) (c .enum-told3 .given .1)))))  -- returns-4

@@ -1,0 +1,92 @@
+-- Document 01's number and values of what `recordOf` and `placedOf` answer. Assumes nothing.
+use Prim.Native.Nat.{ℕ, _≤_}
+use native.Mathlib.Omega.{arith}
+use mathlib.Core.Path.{_≡_, refl, sym, ap, _∙_}
+use mathlib.Core.Bool.{Bool, true, false, cond, not, _||_, true≢false}
+use mathlib.Core.List.{List, [], _∷_}
+use lib.ListN.{length}
+use lib.Dec.{eqb, ltb}
+use borrow.Author.Tests.{eqb-true, eqb-false, ne-eqb, ltb-false, not-true}
+use Rattle.sheet.specs.Signal.{connected}
+use Rattle.sheet.specs.Exercise.{recordPart}
+use Rattle.sheet.specs.Record.{kindOf, flagOf, codeAt, combinationalOf, registerOf, badCombinational, badRegister, badTail, keepsCombinational, keepsRegister, breaksLayout, recordFields, recordOf, recordNumber, recordValues, combinationalValues, registerValues}
+use Rattle.sheet.specs.Answer.{outOfRange, breaksPlace, placeFields, placedOf, placedNumber, placedValues}
+use Rattle.sheet.specs.declared.Record.{Record}
+use Rattle.sheet.specs.declared.Record.the-variants.{Malformed}
+use Rattle.sheet.specs.declared.Placed.{Placed}
+use Rattle.sheet.specs.declared.Placed.the-variants.{OutOfRange}
+use Rattle.sheet.proofs.Laws.{by-test, or-parts}
+
+kind-once : (k : ℕ) → eqb k 1 ≡ true → eqb k 2 ≡ false
+kind-once k h = let e = eqb-true k 1 h in ne-eqb k 2 (λ z. omega arith)
+
+unconnected : (s : ℕ) → connected s ≡ false → s ≡ 0
+unconnected s h = by-test (eqb s 0) (λ e. eqb-true s 0 e) (λ e. absurd (true≢false (rw e at h)))
+
+flag-same : (f : ℕ) → f ≤ 1 → cond (eqb f 1) 1 0 ≡ f
+flag-same f h = by-test (eqb f 1) (λ e. rw e (sym (eqb-true f 1 e))) (λ e. rw e (omega (arith, eqb-false f 1 e)))
+
+module _ (nets : ℕ) (p : List ℕ) where
+  pub record-number : recordNumber (recordOf nets p) ≡ cond (breaksLayout nets p) (recordNumber Malformed) 0
+  unfolding recordOf breaksLayout
+  record-number =
+      by-test (not (eqb (length p) 24)) (λ l. rw l)
+      (λ l. by-test (eqb (kindOf p) 1)
+      (λ k. by-test (keepsCombinational nets p) (λ h. rw (l, k, h)) (λ h. rw (l, k, h, kind-once (kindOf p) k)))
+      (λ k. by-test (eqb (kindOf p) 2)
+      (λ r. by-test (keepsRegister nets p) (λ h. rw (l, k, r, h)) (λ h. rw (l, k, r, h)))
+      (λ r. rw (l, k, r))))
+
+  -- the last three signals are zero
+  tail-zero : badTail p ≡ false → (codeAt p 8 ≡ 0) × (codeAt p 9 ≡ 0) × (codeAt p 10 ≡ 0)
+  unfolding badTail
+  tail-zero h =
+      let a = or-parts (connected (codeAt p 8) || connected (codeAt p 9)) (connected (codeAt p 10)) h in
+      let b = or-parts (connected (codeAt p 8)) (connected (codeAt p 9)) (a .0) in
+      (unconnected (codeAt p 8) (b .0), unconnected (codeAt p 9) (b .1), unconnected (codeAt p 10) (a .1))
+
+  combinational-fields : eqb (kindOf p) 1 ≡ true → keepsCombinational nets p ≡ true → combinationalValues (combinationalOf p) ≡ recordFields p
+  unfolding keepsCombinational recordFields
+  combinational-fields k h =
+      let bad = badCombinational nets (combinationalOf p) in
+      let a = or-parts (ltb 1 (flagOf p) || bad || connected (codeAt p 7)) (badTail p) (not-true _ h) in
+      let b = or-parts (ltb 1 (flagOf p) || bad) (connected (codeAt p 7)) (a .0) in
+      let c = or-parts (ltb 1 (flagOf p)) bad (b .0) in
+      let t = tail-zero (a .1) in
+      rw (eqb-true (kindOf p) 1 k, flag-same (flagOf p) (ltb-false _ _ (c .0)), unconnected (codeAt p 7) (b .1), t .0, t .1, t .2)
+
+  register-fields : eqb (kindOf p) 2 ≡ true → keepsRegister nets p ≡ true → registerValues (registerOf p) ≡ recordFields p
+  unfolding keepsRegister recordFields
+  register-fields k h =
+      let bad = badRegister nets (registerOf p) in
+      let a = or-parts (ltb 0 (flagOf p) || bad) (badTail p) (not-true _ h) in
+      let b = or-parts (ltb 0 (flagOf p)) bad (a .0) in
+      let t = tail-zero (a .1) in
+      let none : flagOf p ≡ 0 = omega (arith, ltb-false 0 (flagOf p) (b .0)) in
+      rw (eqb-true (kindOf p) 2 k, none, t .0, t .1, t .2)
+
+  pub record-values : recordValues (recordOf nets p) ≡ cond (breaksLayout nets p) [] (recordFields p)
+  unfolding recordOf breaksLayout
+  record-values =
+      by-test (not (eqb (length p) 24)) (λ l. rw l)
+      (λ l. by-test (eqb (kindOf p) 1)
+      (λ k. by-test (keepsCombinational nets p) (λ h. rw (l, k, h) (combinational-fields k h)) (λ h. rw (l, k, h, kind-once (kindOf p) k)))
+      (λ k. by-test (eqb (kindOf p) 2)
+      (λ r. by-test (keepsRegister nets p) (λ h. rw (l, k, r, h) (register-fields r h)) (λ h. rw (l, k, r, h)))
+      (λ r. rw (l, k, r))))
+
+  -- what a contract says of an answer that is the definition's
+  pub record-says : {r : Record} → r ≡ recordOf nets p → (r ≡ recordOf nets p) × ((recordNumber r ≡ cond (breaksLayout nets p) (recordNumber Malformed) 0) × (recordValues r ≡ cond (breaksLayout nets p) [] (recordFields p)))
+  record-says e = (e, (ap recordNumber e ∙ record-number, ap recordValues e ∙ record-values))
+
+module _ (p : List ℕ) where
+  pub placed-number : placedNumber (placedOf p) ≡ cond (breaksPlace p) (placedNumber OutOfRange) 0
+  unfolding placedOf
+  placed-number = by-test (not (eqb (length p) 4)) (λ l. rw l) (λ l. by-test (outOfRange p) (λ o. rw (l, o)) (λ o. rw (l, o)))
+
+  pub placed-values : placedValues (placedOf p) ≡ cond (breaksPlace p) [] (placeFields p)
+  unfolding placedOf
+  placed-values = by-test (not (eqb (length p) 4)) (λ l. rw l) (λ l. by-test (outOfRange p) (λ o. rw (l, o)) (λ o. rw (l, o)))
+
+  pub placed-says : {r : Placed} → r ≡ placedOf p → (r ≡ placedOf p) × ((placedNumber r ≡ cond (breaksPlace p) (placedNumber OutOfRange) 0) × (placedValues r ≡ cond (breaksPlace p) [] (placeFields p)))
+  placed-says e = (e, (ap placedNumber e ∙ placed-number, ap placedValues e ∙ placed-values))
