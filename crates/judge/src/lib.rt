@@ -56,13 +56,13 @@ fn plain(number: u8) -> Finding
 }
 
 // The finding of a run over the cells that stopped at i: nothing where it came to the end.
-fn at_cell(number: u8, i: u16, cells: u16) -> Finding
-    ensures { λ r. ⌜ r ≡ cond (ltb i cells) (finding number i NONE) legal ⌝ }
+fn at_cell(number: u8, i: CellNumber, cells: u16) -> Finding
+    ensures { λ r. ⌜ r ≡ cond (ltb (i .0) cells) (finding number (i .0) NONE) legal ⌝ }
 {
-    if i < cells {
+    if i.0 < cells {
         return Finding {
             number,
-            cell: i,
+            cell: i.0,
             lab: NONE,
         };
     }
@@ -81,9 +81,13 @@ fn exercise_finding(exercise: &[u8]) -> Finding
     let cells = sheet::cell_count(exercise);
     let malformed = netlist::first_malformed(exercise, nets, cells);
     if malformed < cells {
-        return at_cell(15, malformed, cells);
+        return at_cell(15, CellNumber(malformed), cells);
     }
-    at_cell(16, netlist::first_double_driver(exercise, cells), cells)
+    at_cell(
+        16,
+        CellNumber(netlist::first_double_driver(exercise, cells)),
+        cells,
+    )
 }
 
 // 20 to 26.
@@ -101,7 +105,11 @@ fn answer_finding(exercise: &[u8], answer: &[u8]) -> Finding
     if sheet::wrong_answer_length(answer) {
         return plain(25);
     }
-    at_cell(26, placing::first_out_of_range(answer, cells), cells)
+    at_cell(
+        26,
+        CellNumber(placing::first_out_of_range(answer, cells)),
+        cells,
+    )
 }
 
 // 30 to 44, from the tables by net.
@@ -118,8 +126,8 @@ fn cell_finding(
     if i < cells {
         let cell = sheet::known_record_at(exercise, CellNumber(i));
         return at_cell(
-            netlist::cell_number(cell, i, reads, readers, drivers),
-            i,
+            netlist::cell_number(cell, CellNumber(i), reads, readers, drivers),
+            CellNumber(i),
             cells,
         );
     }
@@ -132,11 +140,11 @@ fn place_finding(exercise: &[u8], answer: &[u8], cells: u16, drivers: &[u16]) ->
 {
     let shared = placing::first_shared(exercise, answer, cells);
     if shared < cells {
-        return at_cell(50, shared, cells);
+        return at_cell(50, CellNumber(shared), cells);
     }
     at_cell(
         51,
-        placing::first_detached(exercise, answer, cells, drivers),
+        CellNumber(placing::first_detached(exercise, answer, cells, drivers)),
         cells,
     )
 }
@@ -243,7 +251,7 @@ fn lowest_in(answer: &[u8], cells: u16, lab: u16) -> u16
 {
     let mut i: u16 = 0;
     while i < cells {
-        if placing::lab_of(answer, i) == lab {
+        if placing::lab_of(answer, CellNumber(i)) == lab {
             return i;
         }
         i += 1;
@@ -257,22 +265,22 @@ fn smaller(a: usize, b: usize) -> usize
     if a < b { a } else { b }
 }
 
-fn record_of(cell: u16) -> Part
-    ensures { λ r. ⌜ r ≡ ofExercise (recordStart cell) 24 ⌝ }
+fn record_of(cell: CellNumber) -> Part
+    ensures { λ r. ⌜ r ≡ ofExercise (recordStart (cell .0)) 24 ⌝ }
 {
     Part {
         of_answer: false,
-        start: sheet::EXERCISE_HEADER + sheet::RECORD_SIZE * (cell as usize),
+        start: sheet::EXERCISE_HEADER + sheet::RECORD_SIZE * (cell.0 as usize),
         size: sheet::RECORD_SIZE,
     }
 }
 
-fn place_of(cell: u16) -> Part
-    ensures { λ r. ⌜ r ≡ ofAnswer (placeStart cell) 4 ⌝ }
+fn place_of(cell: CellNumber) -> Part
+    ensures { λ r. ⌜ r ≡ ofAnswer (placeStart (cell .0)) 4 ⌝ }
 {
     Part {
         of_answer: true,
-        start: sheet::ANSWER_HEADER + sheet::PLACE_SIZE * (cell as usize),
+        start: sheet::ANSWER_HEADER + sheet::PLACE_SIZE * (cell.0 as usize),
         size: sheet::PLACE_SIZE,
     }
 }
@@ -297,7 +305,7 @@ fn culprit_of(exercise: &[u8], answer: &[u8], f: Finding) -> Part
         };
     }
     if number <= 16 {
-        return record_of(f.cell);
+        return record_of(CellNumber(f.cell));
     }
     if number <= 25 {
         return Part {
@@ -307,15 +315,15 @@ fn culprit_of(exercise: &[u8], answer: &[u8], f: Finding) -> Part
         };
     }
     if number <= 26 {
-        return place_of(f.cell);
+        return place_of(CellNumber(f.cell));
     }
     if number <= 44 {
-        return record_of(f.cell);
+        return record_of(CellNumber(f.cell));
     }
     if number <= 51 {
-        return place_of(f.cell);
+        return place_of(CellNumber(f.cell));
     }
-    place_of(lowest_in(answer, sheet::cell_count(exercise), f.lab))
+    place_of(CellNumber(lowest_in(answer, sheet::cell_count(exercise), f.lab)))
 }
 
 // The verdict of a finding.

@@ -99,7 +99,7 @@ fn lab_line(route: &[u8], lab: usize)
 fn mark_occupied(answer: &[u8], cells: u16, occupied: &mut [u8]) {
     let mut i: u16 = 0;
     while i < cells {
-        let lab = placing::lab_of(answer, i) as usize;
+        let lab = placing::lab_of(answer, sheet::CellNumber(i)) as usize;
         if lab < occupied.len() {
             occupied[lab] = 1;
         }

@@ -21,18 +21,18 @@ pub fn link_cells(answer: &[u8], cells: u16, first: &mut [u16], next: &mut [u16]
     let mut i = cells;
     while 0 < i {
         i -= 1;
-        link(answer, i, first, next);
+        link(answer, CellNumber(i), first, next);
     }
 }
 
 // Puts a cell in front of its LAB's list.
-fn link(answer: &[u8], i: u16, first: &mut [u16], next: &mut [u16])
-    ensures firsts { λ _. ⌜ now (first .exit) ≡ link (now (answer .entry)) (record { first = now (first .entry); next = now (next .entry) }) i .first ⌝ }
-    ensures nexts { λ _. ⌜ now (next .exit) ≡ link (now (answer .entry)) (record { first = now (first .entry); next = now (next .entry) }) i .next ⌝ }
+fn link(answer: &[u8], i: CellNumber, first: &mut [u16], next: &mut [u16])
+    ensures firsts { λ _. ⌜ now (first .exit) ≡ link (now (answer .entry)) (record { first = now (first .entry); next = now (next .entry) }) (i .0) .first ⌝ }
+    ensures nexts { λ _. ⌜ now (next .exit) ≡ link (now (answer .entry)) (record { first = now (first .entry); next = now (next .entry) }) (i .0) .next ⌝ }
 {
     let lab = placing::lab_of(answer, i) as usize;
-    store(next, i as usize, entry(first, lab));
-    store(first, lab, i);
+    store(next, i.0 as usize, entry(first, lab));
+    store(first, lab, i.0);
 }
 
 // Stores a cell in a table, where the table has the place.

@@ -11,6 +11,7 @@ link-spec =
     (tie.spec
     (λ c κs. search needs)  -- lab-of-requires
     (λ c. search needs)  -- cast-lab
+    (λ c. search needs)  -- cast-store
     (λ c κs. search needs)  -- entry-requires
     (λ c κs. search needs)  -- store-requires
     (λ c κs. search needs)  -- store-requires-2
