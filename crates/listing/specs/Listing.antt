@@ -1,0 +1,58 @@
+-- Document 01, "A listing in full": "One verdict line, then for a legal answer one line for each occupied LAB, rising. Each line ends in a
+-- newline." `e` is the exercise, `a` the answer. Assumes nothing.
+use Prim.Native.Nat.{ℕ}
+use mathlib.Core.Bool.{cond}
+use mathlib.Core.List.{List, [], _∷_, _++_}
+use lib.Dec.{eqb}
+use lib.ListN.{getD}
+use Rattle.sheet.specs.Lists.{concatMap, filterb, below}
+use Rattle.route.specs.Table.{houseBoard}
+use Rattle.lab.specs.Rules.{routeOf}
+use Rattle.netlist.specs.Tables.{NONE}
+use Rattle.judge.specs.declared.Verdict.{Verdict}
+use Rattle.judge.specs.Judge.{labCells, occupied, judged}
+use Rattle.listing.specs.Text.{ascii, decimal}
+
+-- a space and a number
+abbrev pub number : ℕ → List ℕ
+number n = ascii " " ++ decimal n
+
+-- the same, with a dash for the number that says there is none
+unfoldable pub orDash : ℕ → ℕ → List ℕ
+orDash none n = cond (eqb n none) (ascii " -") (number n)
+
+-- a cell or a LAB: NONE ("65,535") "where there is none"
+abbrev pub place : ℕ → List ℕ
+place n = orDash NONE n
+
+-- a route byte: "255 where there is no need"
+abbrev pub entry : ℕ → List ℕ
+entry n = orDash 255 n
+
+-- "verdict 0 cell - lab - apprentice 7"
+unfoldable pub verdictLine : Verdict → List ℕ
+verdictLine v =
+    ascii "verdict" ++ number (v .number)
+    ++ (ascii " cell" ++ place (v .cell))
+    ++ (ascii " lab" ++ place (v .lab))
+    ++ (ascii " apprentice" ++ number (v .apprentice))
+    ++ ascii "\n"
+
+-- "lab 34 clk 0 - ena - - aclr 1 - sclr - sload -": LAB l and its eight route bytes b
+unfoldable pub labLine : ℕ → List ℕ → List ℕ
+labLine l b =
+    ascii "lab" ++ number l
+    ++ (ascii " clk" ++ entry (getD b 0 0) ++ entry (getD b 1 0))
+    ++ (ascii " ena" ++ entry (getD b 2 0) ++ entry (getD b 3 0))
+    ++ (ascii " aclr" ++ entry (getD b 4 0) ++ entry (getD b 5 0))
+    ++ (ascii " sclr" ++ entry (getD b 6 0))
+    ++ (ascii " sload" ++ entry (getD b 7 0))
+    ++ ascii "\n"
+
+-- "one line for each occupied LAB, rising"
+unfoldable pub labLines : List ℕ → List ℕ → List ℕ
+labLines e a = concatMap (λ l. labLine l (routeOf houseBoard (labCells e a l))) (filterb (occupied e a) (below 1024))
+
+-- THE LISTING: "One verdict line, then for a legal answer one line for each occupied LAB, rising"
+unfoldable pub listing : List ℕ → List ℕ → List ℕ
+listing e a = let v = judged houseBoard e a 8192 in verdictLine v ++ cond (eqb (v .number) 0) (labLines e a) []
