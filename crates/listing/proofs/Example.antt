@@ -1,18 +1,49 @@
--- Document 01's listing in full: its two lines, by computation. Assumes nothing.
+-- Document 01's listing in full, from its two sheets to its two lines, by computation. Assumes nothing.
+use Prim.Native.Nat.{ℕ, _+_, _*_}
 use mathlib.Core.Path.{_≡_, refl}
-use mathlib.Core.Bool.{true}
-use mathlib.Core.List.{[], _∷_}
-use Rattle.netlist.specs.Tables.{NONE}
-use Rattle.judge.specs.declared.Verdict.{Verdict}
-use Rattle.judge.specs.Judge.{ofAnswer}
+use mathlib.Core.List.{List, [], _∷_, _++_}
+use Rattle.sheet.specs.Lists.{concatMap}
+use Rattle.judge.specs.Judge.{carryNotNext, labCells, occupied, roomChecks, exerciseGroup, answerGroup, cellGroup, placeGroup, labGroup, checksTo51, checks, apprenticeOf, verdictOf, judged}
+use Rattle.lab.specs.Ports.{counted, clockPair, inUse, needed, inLab, inputs, netsIn}
+use Rattle.lab.specs.Rules.{tooManyClocks, tooManyPairs, tooManyClears, tooManySynchronous, tooManyNets, needs, noWay, routeOf}
+use Rattle.labs.specs.Members.{members}
+use Rattle.netlist.specs.Cells.{cell, malformed, driven, doubleDriver, feeds, carryInNotFed, carryOutNotReadOnce, cellChecks}
+use Rattle.placing.specs.Places.{labAt, outOfRangeAt, samePlace, placeTaken}
+use Rattle.route.specs.Route.{firstWay, eightBytes, labRouteOf}
+use Rattle.route.specs.Search.{pick, searchFrom}
+use Rattle.route.specs.Table.{houseBoard}
+use Rattle.sheet.specs.Answer.{wrongAnswerLength, placedOf, placedAt}
+use Rattle.sheet.specs.Exercise.{wrongMark, wrongVersion, overLimit, wrongExerciseLength}
+use Rattle.sheet.specs.Record.{badCombinational, badRegister, badTail, keepsCombinational, keepsRegister, recordOf, recordAt, outputs}
 use Rattle.listing.specs.Text.{ascii, digits, decimal}
-use Rattle.listing.specs.Listing.{orDash, verdictLine, labLine}
+use Rattle.listing.specs.Listing.{orDash, verdictLine, labLine, labLines, listing}
 
--- a legal answer of apprentice 7 with two cells
-abbrev legal : Verdict
-legal = record { number = 0; cell = NONE; lab = NONE; apprentice = 7; culprit = ofAnswer 19 0 }
+-- 16 bits, low byte first, of a number below 256
+abbrev small : ℕ → List ℕ
+small n = n ∷ 0 ∷ []
 
-pub listing-example : (verdictLine legal ≡ ascii "verdict 0 cell - lab - apprentice 7\n")
-    × (labLine 34 (0 ∷ 255 ∷ 255 ∷ 255 ∷ 1 ∷ 255 ∷ 255 ∷ 255 ∷ []) ≡ ascii "lab 34 clk 0 - ena - - aclr 1 - sclr - sload -\n")
-unfolding digits decimal orDash verdictLine labLine
-listing-example = (refl, refl)
+-- the signal code of net n
+abbrev net : ℕ → ℕ
+net n = 4 + 2 * n
+
+-- "Nets 4, cells 2. Cell 0, register: datain net 0, clk net 1, aclr net 2, regout net 3. Cell 1, combinational: dataa net 3, combout net 0."
+abbrev exercise : List ℕ
+exercise =
+    ascii "LXE" ++ concatMap small (1 ∷ 4 ∷ 2 ∷ [])
+    ++ 2 ∷ 0 ∷ concatMap small (net 0 ∷ net 1 ∷ 0 ∷ net 2 ∷ 0 ∷ 0 ∷ 0 ∷ net 3 ∷ 0 ∷ 0 ∷ 0 ∷ [])
+    ++ 1 ∷ 0 ∷ concatMap small (net 3 ∷ 0 ∷ 0 ∷ 0 ∷ 0 ∷ net 0 ∷ 0 ∷ 0 ∷ 0 ∷ 0 ∷ 0 ∷ [])
+
+-- "Both at x 2, y 1, LE 0; apprentice 7."
+abbrev answer : List ℕ
+answer = ascii "LXA" ++ concatMap small (1 ∷ 7 ∷ 0 ∷ 2 ∷ []) ++ 2 ∷ 1 ∷ 0 ∷ 0 ∷ [] ++ 2 ∷ 1 ∷ 0 ∷ 0 ∷ []
+
+pub listing-example : listing exercise answer
+    ≡ ascii "verdict 0 cell - lab - apprentice 7\n"
+    ++ ascii "lab 34 clk 0 - ena - - aclr 1 - sclr - sload -\n"
+unfolding carryNotNext labCells occupied roomChecks exerciseGroup answerGroup cellGroup placeGroup labGroup checksTo51 checks apprenticeOf
+    verdictOf judged counted clockPair inUse needed inLab inputs netsIn tooManyClocks tooManyPairs tooManyClears tooManySynchronous
+    tooManyNets needs noWay routeOf members cell malformed driven doubleDriver feeds carryInNotFed carryOutNotReadOnce cellChecks labAt
+    outOfRangeAt samePlace placeTaken firstWay eightBytes labRouteOf pick searchFrom houseBoard wrongAnswerLength placedOf placedAt
+    wrongMark wrongVersion overLimit wrongExerciseLength badCombinational badRegister badTail keepsCombinational keepsRegister recordOf
+    recordAt outputs digits decimal orDash verdictLine labLine labLines listing
+listing-example = refl

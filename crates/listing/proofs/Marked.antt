@@ -92,8 +92,8 @@ module _ (marks route : List ℕ) where
   lines-end n l h = let none : n - l ≡ zero = omega arith in rw none
 
   -- the two ways out of `line_at`
-  pub line-marked : {m n bytes : List ℕ} {at p k b : ℕ} (l : ℕ) → b ≡ byteAt marks l → b ≡ 1 → bytes ≡ rowAt route l → Writes m at (labLine l bytes) k n p
-      → Writes m at (lineAt marks route l) k n p
+  pub line-marked : {m n bytes : List ℕ} {at p k b : ℕ} (l : ℕ) → b ≡ byteAt marks l → b ≡ 1 → bytes ≡ rowAt route l
+      → Writes m at (labLine l bytes) k n p → Writes m at (lineAt marks route l) k n p
   unfolding lineAt
   line-marked l q h e w = rw (eq-eqb (byteAt marks l) 1 (sym q ∙ h), ← e) w
 
@@ -124,7 +124,8 @@ module _ (e a before : List ℕ) (legal : judged houseBoard e a (length before) 
   unfolding routeOf
   byte-of l j h s =
       rw (written houseBoard e a before legal)
-      (row-at (λ l. routeOf houseBoard (labCells e a l)) (λ l. route-eight (needs (labCells e a l)) (firstWay houseBoard (needs (labCells e a l)))) 1024 l j h s)
+      (row-at (λ i. routeOf houseBoard (labCells e a i))
+      (λ i. route-eight (needs (labCells e a i)) (firstWay houseBoard (needs (labCells e a i)))) 1024 l j h s)
 
   line-same : (l : ℕ) → l < 1024 → labLine l (rowAt route l) ≡ labLine l (bytes l)
   unfolding labLine rowAt

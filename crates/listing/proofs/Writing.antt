@@ -4,8 +4,8 @@ use mathlib.Core.Path.{_≡_, refl, sym, ap, _∙_}
 use mathlib.Core.List.{List, [], _∷_, _++_}
 use native.Mathlib.Omega.{arith}
 use native.Mathlib.Numerals.{add-one}
-use lib.ListN.{length, set, getD, drop, length-append, drop-of-length-le}
-use lib.Seq.{set-out, drop-cons, sets, length-sets}
+use lib.ListN.{length, set, getD, take, drop, length-append, drop-of-length-le}
+use lib.Seq.{set-out, drop-cons, sets, length-sets, sets-eq, take-append-seam}
 use Rattle.listing.specs.Text.{overwrite, Fits, Writes}
 
 -- ---- the buffer
@@ -30,6 +30,11 @@ over-none l at = refl
 pub over-one : (l : List ℕ) (at b : ℕ) → overwrite l at (b ∷ []) ≡ set l at b
 unfolding overwrite
 over-one l at b = refl
+
+-- where the buffer has room, its first bytes are then the text
+pub over-reads-back : (l a : List ℕ) → length a ≤ length l → take (length a) (overwrite l 0 a) ≡ a
+unfolding overwrite
+over-reads-back l a h = rw (sets-eq a l 0 (omega arith)) (take-append-seam a (drop (0 + length a) l))
 
 -- ---- pieces in a row
 pub byte-in : (l : List ℕ) (at b : ℕ) → Writes l at (b ∷ []) 1 (set l at b) (at + 1)
@@ -73,22 +78,23 @@ pub record Left (before : List ℕ) (at : ℕ) (text : List ℕ) (after : List �
 pub left-starts : (before : List ℕ) (at : ℕ) (text : List ℕ) → Left before at text before at text
 left-starts before at text = record { stored = refl; past = refl; long = refl }
 
-pub left-goes : {before text after further a : List ℕ} {at next p k : ℕ} (rest : List ℕ) → Left before at text after next (a ++ rest) → Writes after next a k further p
-    → Left before at text further p rest
+pub left-goes : {before text after further a : List ℕ} {at next p k : ℕ} (rest : List ℕ)
+    → Left before at text after next (a ++ rest) → Writes after next a k further p → Left before at text further p rest
 left-goes {before} {text} {after} {further} {a} {at} {next} {p} rest l w = record {
   stored = l .stored ∙ sym (rw (w .stored, w .past) (over-append after next a rest));
   past = omega (arith, l .past, w .past, length-append a rest);
   long = ap length (w .stored) ∙ over-long after next a ∙ l .long;
 }
 
-pub left-ends : {before text after : List ℕ} {at next : ℕ} (k : ℕ) → Left before at text after next [] → next ≤ at + k → Writes before at text k after next
+pub left-ends : {before text after : List ℕ} {at next : ℕ} (k : ℕ) → Left before at text after next [] → next ≤ at + k
+    → Writes before at text k after next
 left-ends {after = after} {next = next} k l h = record { stored = sym (l .stored ∙ over-none after next); past = omega (arith, l .past); short = h }
 
 -- the same where the pieces are the bytes of a word
-pub byte-goes : {before text after further : List ℕ} {at next p k : ℕ} (word : List ℕ) (i : ℕ) → i < length word → Left before at text after next (drop i word)
-    → Writes after next (getD word i 0 ∷ []) k further p → Left before at text further p (drop (i + 1) word)
+pub byte-goes : {before text after further : List ℕ} {at next p k : ℕ} (word : List ℕ) (i : ℕ) → i < length word
+    → Left before at text after next (drop i word) → Writes after next (getD word i 0 ∷ []) k further p → Left before at text further p (drop (i + 1) word)
 byte-goes word i h l w = left-goes (drop (i + 1) word) (rw (add-one, ← drop-cons word i 0 h) l) w
 
-pub bytes-end : {before text after : List ℕ} {at next k : ℕ} (word : List ℕ) (i : ℕ) → length word ≤ i → Left before at text after next (drop i word) → next ≤ at + k
-    → Writes before at text k after next
+pub bytes-end : {before text after : List ℕ} {at next k : ℕ} (word : List ℕ) (i : ℕ) → length word ≤ i
+    → Left before at text after next (drop i word) → next ≤ at + k → Writes before at text k after next
 bytes-end {k = k} word i h l b = left-ends k (rw (drop-of-length-le word h) at l) b

@@ -22,7 +22,8 @@ abbrev write-decimal-below : ℕ → In 1 write-decimal-kinds.ps
 write-decimal-below t = and 1 write-decimal-kinds.ps (falls 1 write-decimal-kinds.ps _<_ μ-write-decimal t) write-decimal.Pre
 
 pub +write-decimal-spec : {M : Type 1} → statement M
-+write-decimal-spec = close μ-write-decimal λ t. write-decimal-lts.spec (store-reads.Asked, store-reads.Learnt, write-decimal-below t, write-decimal.Post)
++write-decimal-spec = close μ-write-decimal λ t. write-decimal-lts.spec
+    (store-reads.Asked, store-reads.Learnt, write-decimal-below t, write-decimal.Post)
     (write-decimal-at t)
     write-decimal.Post
     (λ c. search needs)  -- cast-store
@@ -38,4 +39,5 @@ pub +write-decimal-spec : {M : Type 1} → statement M
     (λ c.
     let d = c .before .before .before .before .before .before in
     let s = d .before .before .before .before in
-    more-digits (s .args .n) (d .before .before .if1 .left) (s .fits .n .fits) (d .write-decimal .ensures) (c .before .before .store2 .ensures))  -- returns-2
+    more-digits (s .args .n) (d .before .before .if1 .left) (s .fits .n .fits) (d .write-decimal .ensures)
+    (c .before .before .store2 .ensures))  -- returns-2

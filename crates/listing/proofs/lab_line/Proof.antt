@@ -14,7 +14,8 @@ store-requires c κs =
     let clk = ena .before .before .before .before .before in
     let lab = clk .before .before .before .before .before in
     room-after 1
-    (lab .numbered .ensures then clk .paired .ensures then ena .paired2 .ensures then aclr .paired3 .ensures then sclr .entered .ensures then sload .entered2 .ensures)
+    (lab .numbered .ensures then clk .paired .ensures then ena .paired2 .ensures then aclr .paired3 .ensures then sclr .entered .ensures
+    then sload .entered2 .ensures)
     (lab .before .before .before .before .pre)
 
 returns : tie.Need-returns
@@ -27,8 +28,8 @@ returns c =
     let clk = ena .before .before .before .before .before in
     let lab = clk .before .before .before .before .before in
     let args = lab .before .before .before .before .args in
-    lab-pieces (args .lab) (args .t4) (lab .numbered .ensures) (clk .paired .ensures) (ena .paired2 .ensures) (aclr .paired3 .ensures) (sclr .entered .ensures)
-    (sload .entered2 .ensures) (end .store .ensures)
+    lab-pieces (args .lab) (args .t4) (lab .numbered .ensures) (clk .paired .ensures) (ena .paired2 .ensures) (aclr .paired3 .ensures)
+    (sclr .entered .ensures) (sload .entered2 .ensures) (end .store .ensures)
 
 pub lab-line-spec : {M : Type 1} → statement M
 lab-line-spec =

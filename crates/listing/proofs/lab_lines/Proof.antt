@@ -20,7 +20,8 @@ loop-again c =
     let w = c .before .before in
     let l = w .before .before .before in
     let a = l .before .before .before .before .args in
-    (omega arith, omega (arith, w .line-at .ensures .short), left-goes _ (rw (lines-step (a .marks .now) (a .route .now) 1024 (l .loop .lab) (omega arith)) at (l .loop .inv .2)) (w .line-at .ensures))
+    let left = rw (lines-step (a .marks .now) (a .route .now) 1024 (l .loop .lab) (omega arith)) at (l .loop .inv .2) in
+    (omega arith, omega (arith, w .line-at .ensures .short), left-goes _ left (w .line-at .ensures))
 
 returns : tie.Need-returns Inv-loop μ-loop
 returns c =

@@ -24,8 +24,8 @@ returns-2 c =
     let board = judged .before .before in
     let args = board .before .before .before .before .args in
     legal _ (now (args .exercise)) (now (args .answer)) (judged .judge-on .result) (board .house-board .ensures) (judged .judge-on .ensures .0)
-    (line .verdict-line .ensures) _ _ _ (cells .before .if1 .left) (judged .judge-on .ensures .1) (cells .cell-count .ensures) (marks .mark-labs .ensures)
-    (lines .lab-lines .ensures)
+    (line .verdict-line .ensures) _ _ _ (cells .before .if1 .left) (judged .judge-on .ensures .1) (cells .cell-count .ensures)
+    (marks .mark-labs .ensures) (lines .lab-lines .ensures)
 
 pub listing-spec : {M : Type 1} → statement M
 listing-spec =

@@ -15,7 +15,8 @@ loop-again : tie.Need-loop-again Inv-loop μ-loop
 loop-again c =
     let s = c .before .before in
     let l = s .before .before .before .before in
-    mark-goes _ _ _ (l .loop .marks) (l .loop .i) (l .loop .inv) (s .before .before .before .loop-test .taken) (s .before .lab-of .ensures) (s .store .ensures)
+    let taken = s .before .before .before .loop-test .taken in
+    mark-goes _ _ _ (l .loop .marks) (l .loop .i) (l .loop .inv) taken (s .before .lab-of .ensures) (s .store .ensures)
 
 pub mark-labs-spec : {M : Type 1} → statement M
 mark-labs-spec =

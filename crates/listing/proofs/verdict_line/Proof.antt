@@ -11,7 +11,9 @@ returns c =
     let lab = apprentice .before .before .before .before .before in
     let cell = lab .before .before .before .before .before in
     let number = cell .before .before .before .before .before in
-    verdict-pieces (number .before .before .before .before .before .args .v) (number .numbered .ensures) (cell .placed .ensures) (lab .placed2 .ensures) (apprentice .numbered2 .ensures) (end .store .ensures)
+    let args = number .before .before .before .before .before .args in
+    verdict-pieces (args .v) (number .numbered .ensures) (cell .placed .ensures) (lab .placed2 .ensures) (apprentice .numbered2 .ensures)
+    (end .store .ensures)
 
 pub verdict-line-spec : {M : Type 1} → statement M
 verdict-line-spec =

@@ -18,7 +18,8 @@ loop-again : tie.Need-loop-again Inv-loop μ-loop
 loop-again c =
     let s = c .before .before in
     let l = s .before .before .before .before in
-    (omega arith, omega (arith, s .store .ensures .past), byte-goes _ (l .loop .i) (s .before .before .before .loop-test .taken) (l .loop .inv .2) (s .store .ensures))
+    let taken = s .before .before .before .loop-test .taken in
+    (omega arith, omega (arith, s .store .ensures .past), byte-goes _ (l .loop .i) taken (l .loop .inv .2) (s .store .ensures))
 
 pub write-word-spec : {M : Type 1} → statement M
 write-word-spec =
