@@ -13,13 +13,9 @@ use Rattle.judge.specs.declared.Verdict.{Verdict}
 use Rattle.judge.specs.Judge.{labCells, occupied, judged}
 use Rattle.listing.specs.Text.{ascii, decimal}
 
--- a space and a number
-abbrev pub number : ℕ → List ℕ
-number n = ascii " " ++ decimal n
-
--- the same, with a dash for the number that says there is none
+-- a number, with a dash for the one that says there is none
 unfoldable pub orDash : ℕ → ℕ → List ℕ
-orDash none n = cond (eqb n none) (ascii " -") (number n)
+orDash none n = cond (eqb n none) (ascii "-") (decimal n)
 
 -- a cell or a LAB: NONE ("65,535") "where there is none"
 abbrev pub place : ℕ → List ℕ
@@ -32,21 +28,21 @@ entry n = orDash 255 n
 -- "verdict 0 cell - lab - apprentice 7"
 unfoldable pub verdictLine : Verdict → List ℕ
 verdictLine v =
-    ascii "verdict" ++ number (v .number)
-    ++ (ascii " cell" ++ place (v .cell))
-    ++ (ascii " lab" ++ place (v .lab))
-    ++ (ascii " apprentice" ++ number (v .apprentice))
+    ascii "verdict " ++ decimal (v .number)
+    ++ (ascii " cell " ++ place (v .cell))
+    ++ (ascii " lab " ++ place (v .lab))
+    ++ (ascii " apprentice " ++ decimal (v .apprentice))
     ++ ascii "\n"
 
--- "lab 34 clk 0 - ena - - aclr 1 - sclr - sload -": LAB l and its eight route bytes b
+-- "lab 34 clk 0 - ena - - aclr 1 - sclr - sload -": LAB l and its eight route bytes b, "for two clk, two ena, two aclr, sclr, sload"
 unfoldable pub labLine : ℕ → List ℕ → List ℕ
 labLine l b =
-    ascii "lab" ++ number l
-    ++ (ascii " clk" ++ entry (getD b 0 0) ++ entry (getD b 1 0))
-    ++ (ascii " ena" ++ entry (getD b 2 0) ++ entry (getD b 3 0))
-    ++ (ascii " aclr" ++ entry (getD b 4 0) ++ entry (getD b 5 0))
-    ++ (ascii " sclr" ++ entry (getD b 6 0))
-    ++ (ascii " sload" ++ entry (getD b 7 0))
+    ascii "lab " ++ decimal l
+    ++ (ascii " clk " ++ entry (getD b 0 0) ++ ascii " " ++ entry (getD b 1 0))
+    ++ (ascii " ena " ++ entry (getD b 2 0) ++ ascii " " ++ entry (getD b 3 0))
+    ++ (ascii " aclr " ++ entry (getD b 4 0) ++ ascii " " ++ entry (getD b 5 0))
+    ++ (ascii " sclr " ++ entry (getD b 6 0))
+    ++ (ascii " sload " ++ entry (getD b 7 0))
     ++ ascii "\n"
 
 -- "one line for each occupied LAB, rising"

@@ -5,8 +5,8 @@ ghost use mathlib.Core.List.{[], _∷_, _++_};
 ghost use Prim.Native.Nat.{_+_, _≤_};
 ghost use lib.ListN.{length, replicate};
 ghost use Rattle.sheet.specs.Exercise.{cellCount};
-ghost use Rattle.listing.specs.Text.{decimal, overwrite, Fits, Writes};
-ghost use Rattle.listing.specs.Listing.{number, orDash, place, entry, verdictLine, labLine, listing};
+ghost use Rattle.listing.specs.Text.{ascii, decimal, overwrite, Fits, Writes};
+ghost use Rattle.listing.specs.Listing.{orDash, place, entry, verdictLine, labLine, listing};
 ghost use Rattle.listing.specs.Marks.{rowAt, markedFrom, lineAt, linesFrom};
 
 // No listing is longer: a buffer of this size always has room.
@@ -53,40 +53,30 @@ fn write_decimal(out: &mut [u8], at: usize, n: u32) -> usize
     store(out, next, b'0' + (n % 10) as u8)
 }
 
-// A space and a number.
-fn write_number(out: &mut [u8], at: usize, n: u32) -> usize
-    requires { ⌜ Fits at 11 ⌝ }
-    ensures { λ r. ⌜ Writes (now (out .entry)) at (number n) 11 (now (out .exit)) r ⌝ }
-{
-    let next = store(out, at, b' ');
-    write_decimal(out, next, n)
-}
-
-// The same, with a dash for the number that says there is none.
+// Writes a number, or a dash for the one that says there is none.
 fn write_or_dash(out: &mut [u8], at: usize, none: u32, n: u32) -> usize
-    requires { ⌜ Fits at 11 ⌝ }
-    ensures { λ r. ⌜ Writes (now (out .entry)) at (orDash none n) 11 (now (out .exit)) r ⌝ }
+    requires { ⌜ Fits at 10 ⌝ }
+    ensures { λ r. ⌜ Writes (now (out .entry)) at (orDash none n) 10 (now (out .exit)) r ⌝ }
 {
     if n == none {
-        let next = store(out, at, b' ');
-        return store(out, next, b'-');
+        return store(out, at, b'-');
     }
-    write_number(out, at, n)
+    write_decimal(out, at, n)
 }
 
 // A word and a number.
 fn numbered(out: &mut [u8], at: usize, word: &[u8], n: u32) -> usize
-    requires { ⌜ Fits at (length (now word) + 11) ⌝ }
-    ensures { λ r. ⌜ Writes (now (out .entry)) at (now (word .entry) ++ number n) (length (now (word .entry)) + 11) (now (out .exit)) r ⌝ }
+    requires { ⌜ Fits at (length (now word) + 10) ⌝ }
+    ensures { λ r. ⌜ Writes (now (out .entry)) at (now (word .entry) ++ decimal n) (length (now (word .entry)) + 10) (now (out .exit)) r ⌝ }
 {
     let next = write_word(out, at, word);
-    write_number(out, next, n)
+    write_decimal(out, next, n)
 }
 
 // A word and a cell or a LAB.
 fn placed(out: &mut [u8], at: usize, word: &[u8], n: u16) -> usize
-    requires { ⌜ Fits at (length (now word) + 11) ⌝ }
-    ensures { λ r. ⌜ Writes (now (out .entry)) at (now (word .entry) ++ place n) (length (now (word .entry)) + 11) (now (out .exit)) r ⌝ }
+    requires { ⌜ Fits at (length (now word) + 10) ⌝ }
+    ensures { λ r. ⌜ Writes (now (out .entry)) at (now (word .entry) ++ place n) (length (now (word .entry)) + 10) (now (out .exit)) r ⌝ }
 {
     let next = write_word(out, at, word);
     write_or_dash(out, next, NONE as u32, n as u32)
@@ -94,8 +84,8 @@ fn placed(out: &mut [u8], at: usize, word: &[u8], n: u16) -> usize
 
 // A word and a route byte.
 fn entered(out: &mut [u8], at: usize, word: &[u8], byte: u8) -> usize
-    requires { ⌜ Fits at (length (now word) + 11) ⌝ }
-    ensures { λ r. ⌜ Writes (now (out .entry)) at (now (word .entry) ++ entry byte) (length (now (word .entry)) + 11) (now (out .exit)) r ⌝ }
+    requires { ⌜ Fits at (length (now word) + 10) ⌝ }
+    ensures { λ r. ⌜ Writes (now (out .entry)) at (now (word .entry) ++ entry byte) (length (now (word .entry)) + 10) (now (out .exit)) r ⌝ }
 {
     let next = write_word(out, at, word);
     write_or_dash(out, next, NO_ENTRY as u32, byte as u32)
@@ -103,21 +93,22 @@ fn entered(out: &mut [u8], at: usize, word: &[u8], byte: u8) -> usize
 
 // A word and two route bytes.
 fn paired(out: &mut [u8], at: usize, word: &[u8], first: u8, second: u8) -> usize
-    requires { ⌜ Fits at (length (now word) + 11 + 11) ⌝ }
-    ensures { λ r. ⌜ Writes (now (out .entry)) at (now (word .entry) ++ entry first ++ entry second) (length (now (word .entry)) + 11 + 11) (now (out .exit)) r ⌝ }
+    requires { ⌜ Fits at (length (now word) + 10 + 1 + 10) ⌝ }
+    ensures { λ r. ⌜ Writes (now (out .entry)) at (now (word .entry) ++ entry first ++ ascii " " ++ entry second) (length (now (word .entry)) + 10 + 1 + 10) (now (out .exit)) r ⌝ }
 {
     let next = entered(out, at, word, first);
-    write_or_dash(out, next, NO_ENTRY as u32, second as u32)
+    let past = store(out, next, b' ');
+    write_or_dash(out, past, NO_ENTRY as u32, second as u32)
 }
 
 fn verdict_line(out: &mut [u8], at: usize, v: Verdict) -> usize
     requires { ⌜ Fits at 72 ⌝ }
     ensures { λ r. ⌜ Writes (now (out .entry)) at (verdictLine v) 72 (now (out .exit)) r ⌝ }
 {
-    let a = numbered(out, at, b"verdict", v.number as u32);
-    let b = placed(out, a, b" cell", v.cell);
-    let c = placed(out, b, b" lab", v.lab);
-    let d = numbered(out, c, b" apprentice", v.apprentice);
+    let a = numbered(out, at, b"verdict ", v.number as u32);
+    let b = placed(out, a, b" cell ", v.cell);
+    let c = placed(out, b, b" lab ", v.lab);
+    let d = numbered(out, c, b" apprentice ", v.apprentice);
     store(out, d, b'\n')
 }
 
@@ -126,12 +117,12 @@ fn lab_line(out: &mut [u8], at: usize, lab: u16, bytes: [u8; 8]) -> usize
     requires { ⌜ Fits at 127 ⌝ }
     ensures { λ r. ⌜ Writes (now (out .entry)) at (labLine lab bytes) 127 (now (out .exit)) r ⌝ }
 {
-    let a = numbered(out, at, b"lab", lab as u32);
-    let b = paired(out, a, b" clk", bytes[0], bytes[1]);
-    let c = paired(out, b, b" ena", bytes[2], bytes[3]);
-    let d = paired(out, c, b" aclr", bytes[4], bytes[5]);
-    let e = entered(out, d, b" sclr", bytes[6]);
-    let f = entered(out, e, b" sload", bytes[7]);
+    let a = numbered(out, at, b"lab ", lab as u32);
+    let b = paired(out, a, b" clk ", bytes[0], bytes[1]);
+    let c = paired(out, b, b" ena ", bytes[2], bytes[3]);
+    let d = paired(out, c, b" aclr ", bytes[4], bytes[5]);
+    let e = entered(out, d, b" sclr ", bytes[6]);
+    let f = entered(out, e, b" sload ", bytes[7]);
     store(out, f, b'\n')
 }
 

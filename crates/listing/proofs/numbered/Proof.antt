@@ -9,6 +9,6 @@ numbered-spec =
     tie.close
     (tie.spec
     (λ c κs. search needs)  -- write-word-requires
-    (λ c κs. search needs)  -- write-number-requires
+    (λ c κs. search needs)  -- write-decimal-requires
     (λ c. search needs)  -- same-length
     (λ c. search in-a-row depth 20))  -- returns

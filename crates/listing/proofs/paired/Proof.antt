@@ -1,4 +1,4 @@
--- Its three pieces, one after the other.
+-- Its four pieces, one after the other.
 use borrow.Author.Needs.{needs}
 use Rattle.listing.proofs.Writing.{in-a-row}
 use Rattle.listing.proofs.paired.Statement.{statement}
@@ -9,6 +9,7 @@ paired-spec =
     tie.close
     (tie.spec
     (λ c κs. search needs)  -- entered-requires
+    (λ c κs. search needs)  -- store-requires
     (λ c. search needs)  -- cast-write-or-dash
     (λ c κs. search needs)  -- write-or-dash-requires
     (λ c. search needs)  -- same-length
