@@ -21,7 +21,7 @@ fn read_sheet(path: &[u8], buf: &mut [u8]) -> usize
 }
 
 fn show(exercise: &[u8], answer: &[u8]) {
-    let mut out = [0u8; listing::ROOM];
+    let mut out = [0u8; listing::MOST];
     let n = listing::listing(exercise, answer, &mut out);
     io::write_all(STDOUT_FILENO, &out[..n]);
 }

@@ -1,7 +1,6 @@
 -- The two ways out of `listing`: the verdict line alone, or with the lines of the LABs after it. Assumes nothing.
 use Prim.Native.Nat.{ℕ, _≤_}
-use mathlib.Core.Path.{_≡_, refl, sym, ap, _∙_}
-use mathlib.Core.Bool.{Bool}
+use mathlib.Core.Path.{_≡_, sym, ap, _∙_}
 use mathlib.Core.List.{List}
 use native.Mathlib.Omega.{arith}
 use borrow.Author.Tests.{eq-eqb, ne-eqb}
@@ -10,7 +9,7 @@ use Rattle.sheet.specs.Exercise.{cellCount}
 use Rattle.route.specs.Table.{Table, houseBoard}
 use Rattle.judge.specs.declared.Verdict.{Verdict}
 use Rattle.judge.specs.Judge.{judged, routed}
-use Rattle.listing.specs.Text.{overwrite, Writes}
+use Rattle.listing.specs.Text.{overwrite, MOST, Writes}
 use Rattle.listing.specs.Listing.{verdictLine, labLines, listing}
 use Rattle.listing.specs.Marks.{markedFrom, linesFrom}
 use Rattle.listing.proofs.Writing.{_then_, nothing, within}
@@ -18,9 +17,9 @@ use Rattle.listing.proofs.Marked.{legal-lines}
 
 -- what `listing` promises
 abbrev pub Listed : List ℕ → List ℕ → List ℕ → List ℕ → ℕ → Type 0
-Listed e a before after n = (after ≡ overwrite before 0 (listing e a)) × ((n ≡ length (listing e a)) × (n ≤ 130120))
+Listed e a before after n = (after ≡ overwrite before 0 (listing e a)) × ((n ≡ length (listing e a)) × (n ≤ MOST))
 
-listed : (e a before : List ℕ) {after : List ℕ} {n : ℕ} → Writes before 0 (listing e a) 130120 after n → Listed e a before after n
+listed : (e a before : List ℕ) {after : List ℕ} {n : ℕ} → Writes before 0 (listing e a) MOST after n → Listed e a before after n
 listed e a before w = (w .stored, (omega (arith, w .past), omega (arith, w .short)))
 
 -- the route buffer before the verdict
@@ -35,7 +34,7 @@ module _ (t : Table) (e a : List ℕ) (v : Verdict) (house : t ≡ houseBoard) (
 
   pub refused : (v .number ≡ 0 → ⊥) → Listed e a l m p
   unfolding listing
-  refused h = listed e a l (rw (← is-judged, ne-eqb (v .number) 0 h) (within 130120 (omega arith) (first then nothing m p 0)))
+  refused h = listed e a l (rw (← is-judged, ne-eqb (v .number) 0 h) (within MOST (omega arith) (first then nothing m p 0)))
 
   pub legal : (route marks : List ℕ) (n : ℕ) {o : List ℕ} {q : ℕ} → v .number ≡ 0 → route ≡ routed t e a fresh → n ≡ cellCount e
       → marks ≡ markedFrom a (replicate 1024 0) 0 n → Writes m p (linesFrom marks route 0 1024) 130048 o q → Listed e a l o q

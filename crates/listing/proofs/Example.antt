@@ -3,7 +3,8 @@ use Prim.Native.Nat.{ℕ, _+_, _*_}
 use mathlib.Core.Path.{_≡_, refl}
 use mathlib.Core.List.{List, [], _∷_, _++_}
 use Rattle.sheet.specs.Lists.{concatMap}
-use Rattle.judge.specs.Judge.{carryNotNext, labCells, occupied, roomChecks, exerciseGroup, answerGroup, cellGroup, placeGroup, labGroup, checksTo51, checks, apprenticeOf, verdictOf, judged}
+use Rattle.judge.specs.Judge.{carryNotNext, labCells, occupied, roomChecks, exerciseGroup, answerGroup, cellGroup}
+use Rattle.judge.specs.Judge.{placeGroup, labGroup, checksTo51, checks, apprenticeOf, verdictOf, judged}
 use Rattle.lab.specs.Ports.{counted, clockPair, inUse, needed, inLab, inputs, netsIn}
 use Rattle.lab.specs.Rules.{tooManyClocks, tooManyPairs, tooManyClears, tooManySynchronous, tooManyNets, needs, noWay, routeOf}
 use Rattle.labs.specs.Members.{members}

@@ -11,7 +11,7 @@ use borrow.Author.Tests.{eqb-true, eqb-false, eq-eqb, ne-eqb}
 use lib.Dec.{eqb}
 use lib.ListN.{length, getD, set, length-set, replicate, length-replicate, getD-replicate}
 use lib.Seq.{getD-set-same, getD-set-other}
-use Rattle.sheet.specs.Lists.{concatMap, filterb, anyb, from, below}
+use Rattle.sheet.specs.Lists.{concatMap, filterb, anyb, from}
 use Rattle.sheet.specs.Bytes.{byteAt}
 use Rattle.sheet.specs.Exercise.{cellCount}
 use Rattle.sheet.proofs.Laws.{by-test}

@@ -3,14 +3,13 @@ use judge::Verdict;
 ghost use mathlib.Core.Path.{_≡_};
 ghost use mathlib.Core.List.{[], _∷_, _++_};
 ghost use Prim.Native.Nat.{_+_, _≤_};
-ghost use lib.ListN.{length, replicate};
-ghost use Rattle.sheet.specs.Exercise.{cellCount};
-ghost use Rattle.listing.specs.Text.{ascii, decimal, overwrite, Fits, Writes};
+ghost use lib.ListN.{length};
+ghost use Rattle.listing.specs.Text.{ascii, decimal, overwrite, MOST, Fits, Writes};
 ghost use Rattle.listing.specs.Listing.{orDash, place, entry, verdictLine, labLine, listing};
 ghost use Rattle.listing.specs.Marks.{rowAt, markedFrom, lineAt, linesFrom};
 
-// No listing is longer: a buffer of this size always has room.
-pub const ROOM: usize = 130120;
+// No listing is longer, so a buffer of this size always has room: 72 bytes for the verdict line and 127 for each LAB.
+pub const MOST: usize = 72 + 127 * 1024;
 
 // A route byte where there is no need.
 const NO_ENTRY: u8 = 255;
@@ -183,7 +182,7 @@ fn mark_labs(answer: &[u8], cells: u16, marks: &mut [u8])
 pub fn listing(exercise: &[u8], answer: &[u8], out: &mut [u8]) -> usize
     ensures written { λ _. ⌜ now (out .exit) ≡ overwrite (now (out .entry)) 0 (listing (now (exercise .entry)) (now (answer .entry))) ⌝ }
     ensures counted { λ r. ⌜ r ≡ length (listing (now (exercise .entry)) (now (answer .entry))) ⌝ }
-    ensures short { λ r. ⌜ r ≤ 130120 ⌝ }
+    ensures short { λ r. ⌜ r ≤ MOST ⌝ }
 {
     let mut route = [NO_ENTRY; judge::ROUTE_SIZE];
     let verdict = judge::judge_on(route::house_board(), exercise, answer, &mut route);
