@@ -20,6 +20,7 @@ fn read_sheet(path: &[u8], buf: &mut [u8]) -> usize
     n
 }
 
+// Writes the listing of two sheets to standard output.
 fn show(exercise: &[u8], answer: &[u8]) {
     let mut out = [0u8; listing::MOST];
     let n = listing::listing(exercise, answer, &mut out);

@@ -100,6 +100,7 @@ fn paired(out: &mut [u8], at: usize, word: &[u8], first: u8, second: u8) -> usiz
     write_or_dash(out, past, NO_ENTRY as u32, second as u32)
 }
 
+// The line of a verdict.
 fn verdict_line(out: &mut [u8], at: usize, v: Verdict) -> usize
     requires { ⌜ Fits at 72 ⌝ }
     ensures { λ r. ⌜ Writes (now (out .entry)) at (verdictLine v) 72 (now (out .exit)) r ⌝ }
