@@ -10,8 +10,8 @@ use Rattle.lab.specs.Rules.{tooManyClocks, tooManyPairs, tooManyClears, tooMany
 use Rattle.labs.specs.Members.{members}
 use Rattle.netlist.specs.Cells.{cell, malformed, driven, doubleDriver, feeds, carryInNotFed, carryOutNotReadOnce, cellChecks}
 use Rattle.placing.specs.Places.{labAt, outOfRangeAt, samePlace, placeTaken}
-use Rattle.route.specs.Route.{firstWay, eightBytes, labRouteOf}
-use Rattle.route.specs.Search.{pick, searchFrom}
+use Rattle.route.specs.Way.{isWay, entryLists, ways, earliestWay}
+use Rattle.route.specs.Route.{eightBytes, labRouteOf}
 use Rattle.route.specs.Table.{houseBoard}
 use Rattle.sheet.specs.Answer.{wrongAnswerLength, placedOf, placedAt}
 use Rattle.sheet.specs.Exercise.{wrongMark, wrongVersion, overLimit, wrongExerciseLength}
@@ -44,7 +44,7 @@ pub listing-example : listing exercise answer
 unfolding carryNotNext labCells occupied roomChecks exerciseGroup answerGroup cellGroup placeGroup labGroup checksTo51 checks apprenticeOf
     verdictOf judged counted clockPair inUse needed inLab inputs netsIn tooManyClocks tooManyPairs tooManyClears tooManySynchronous
     tooManyNets needs noWay routeOf members cell malformed driven doubleDriver feeds carryInNotFed carryOutNotReadOnce cellChecks labAt
-    outOfRangeAt samePlace placeTaken firstWay eightBytes labRouteOf pick searchFrom houseBoard wrongAnswerLength placedOf placedAt
+    outOfRangeAt samePlace placeTaken earliestWay ways entryLists isWay eightBytes labRouteOf houseBoard wrongAnswerLength placedOf placedAt
     wrongMark wrongVersion overLimit wrongExerciseLength badCombinational badRegister badTail keepsCombinational keepsRegister recordOf
     recordAt outputs digits decimal orDash verdictLine labLine labLines listing
 listing-example = refl

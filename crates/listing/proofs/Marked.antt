@@ -16,7 +16,7 @@ use Rattle.sheet.specs.Bytes.{byteAt}
 use Rattle.sheet.specs.Exercise.{cellCount}
 use Rattle.sheet.proofs.Laws.{by-test}
 use Rattle.route.specs.Table.{houseBoard}
-use Rattle.route.specs.Route.{firstWay}
+use Rattle.route.specs.Way.{earliestWay}
 use Rattle.lab.specs.Rules.{needs, routeOf}
 use Rattle.placing.specs.Places.{labAt}
 use Rattle.judge.specs.Judge.{labCells, occupied, judged, routed}
@@ -125,7 +125,7 @@ module _ (e a before : List ℕ) (legal : judged houseBoard e a (length before) 
   byte-of l j h s =
       rw (written houseBoard e a before legal)
       (row-at (λ i. routeOf houseBoard (labCells e a i))
-      (λ i. route-eight (needs (labCells e a i)) (firstWay houseBoard (needs (labCells e a i)))) 1024 l j h s)
+      (λ i. route-eight (needs (labCells e a i)) (earliestWay houseBoard (needs (labCells e a i)))) 1024 l j h s)
 
   line-same : (l : ℕ) → l < 1024 → labLine l (rowAt route l) ≡ labLine l (bytes l)
   unfolding labLine rowAt

@@ -1,5 +1,6 @@
 use judge::NONE;
 use judge::Verdict;
+use sheet::CellNumber;
 ghost use mathlib.Core.Path.{_≡_};
 ghost use mathlib.Core.List.{[], _∷_, _++_};
 ghost use Prim.Native.Nat.{_+_, _≤_};
@@ -174,7 +175,7 @@ fn mark_labs(answer: &[u8], cells: u16, marks: &mut [u8])
 {
     let mut i: u16 = 0;
     while i < cells {
-        store(marks, placing::lab_of(answer, i) as usize, 1);
+        store(marks, placing::lab_of(answer, CellNumber(i)) as usize, 1);
         i += 1;
     }
 }
