@@ -2,19 +2,21 @@
 use Prim.Native.Nat.{ℕ, _≤_}
 use native.Mathlib.Omega.{arith}
 use mathlib.Core.Path.{_≡_, refl, sym, ap, _∙_}
-use mathlib.Core.Bool.{Bool, true, false, cond, not, _||_, true≢false}
-use mathlib.Core.List.{List, [], _∷_}
+use mathlib.Core.Bool.{true, false, cond, not, _||_, true≢false}
+use mathlib.Core.List.{List, []}
 use lib.ListN.{length}
 use lib.Dec.{eqb, ltb}
 use borrow.Author.Tests.{eqb-true, eqb-false, ne-eqb, ltb-false, not-true}
+use Rattle.sheet.specs.Bytes.{byteAt}
 use Rattle.sheet.specs.Signal.{connected}
-use Rattle.sheet.specs.Exercise.{recordPart}
-use Rattle.sheet.specs.Record.{kindOf, flagOf, codeAt, combinationalOf, registerOf, badCombinational, badRegister, badTail, keepsCombinational, keepsRegister, breaksLayout, recordFields, recordOf, recordNumber, recordValues, combinationalValues, registerValues}
+use Rattle.sheet.specs.Record.{kindOf, flagOf, codeAt, combinationalOf, registerOf, badCombinational, badRegister, badTail}
+use Rattle.sheet.specs.Record.{keepsCombinational, keepsRegister, breaksLayout, recordFields, recordOf, recordNumber, recordValues}
+use Rattle.sheet.specs.Record.{combinationalValues, registerValues}
 use Rattle.sheet.specs.Answer.{outOfRange, breaksPlace, placeFields, placedOf, placedNumber, placedValues}
 use Rattle.sheet.specs.declared.Record.{Record}
-use Rattle.sheet.specs.declared.Record.the-variants.{Malformed}
+use Rattle.sheet.specs.declared.Record.the-variants.{Combinational, Register, Malformed}
 use Rattle.sheet.specs.declared.Placed.{Placed}
-use Rattle.sheet.specs.declared.Placed.the-variants.{OutOfRange}
+use Rattle.sheet.specs.declared.Placed.the-variants.{At, OutOfRange}
 use Rattle.sheet.proofs.Laws.{by-test, or-parts}
 
 kind-once : (k : ℕ) → eqb k 1 ≡ true → eqb k 2 ≡ false
@@ -27,15 +29,22 @@ flag-same : (f : ℕ) → f ≤ 1 → cond (eqb f 1) 1 0 ≡ f
 flag-same f h = by-test (eqb f 1) (λ e. rw e (sym (eqb-true f 1 e))) (λ e. rw e (omega (arith, eqb-false f 1 e)))
 
 module _ (nets : ℕ) (p : List ℕ) where
-  pub record-number : recordNumber (recordOf nets p) ≡ cond (breaksLayout nets p) (recordNumber Malformed) 0
+  -- what is said of each kind of record is said of what a part says
+  record-by : {A : Type 0} (f : Record → A) (y : A)
+      → (eqb (kindOf p) 1 ≡ true → keepsCombinational nets p ≡ true → f (Combinational (combinationalOf p)) ≡ y)
+      → (eqb (kindOf p) 2 ≡ true → keepsRegister nets p ≡ true → f (Register (registerOf p)) ≡ y)
+      → f (recordOf nets p) ≡ cond (breaksLayout nets p) (f Malformed) y
   unfolding recordOf breaksLayout
-  record-number =
+  record-by f y one two =
       by-test (not (eqb (length p) 24)) (λ l. rw l)
       (λ l. by-test (eqb (kindOf p) 1)
-      (λ k. by-test (keepsCombinational nets p) (λ h. rw (l, k, h)) (λ h. rw (l, k, h, kind-once (kindOf p) k)))
+      (λ k. by-test (keepsCombinational nets p) (λ h. rw (l, k, h) (one k h)) (λ h. rw (l, k, h, kind-once (kindOf p) k)))
       (λ k. by-test (eqb (kindOf p) 2)
-      (λ r. by-test (keepsRegister nets p) (λ h. rw (l, k, r, h)) (λ h. rw (l, k, r, h)))
+      (λ r. by-test (keepsRegister nets p) (λ h. rw (l, k, r, h) (two r h)) (λ h. rw (l, k, r, h)))
       (λ r. rw (l, k, r))))
+
+  pub record-number : recordNumber (recordOf nets p) ≡ cond (breaksLayout nets p) (recordNumber Malformed) 0
+  record-number = record-by recordNumber 0 (λ k h. refl) (λ k h. refl)
 
   -- the last three signals are zero
   tail-zero : badTail p ≡ false → (codeAt p 8 ≡ 0) × (codeAt p 9 ≡ 0) × (codeAt p 10 ≡ 0)
@@ -45,6 +54,7 @@ module _ (nets : ℕ) (p : List ℕ) where
       let b = or-parts (connected (codeAt p 8)) (connected (codeAt p 9)) (a .0) in
       (unconnected (codeAt p 8) (b .0), unconnected (codeAt p 9) (b .1), unconnected (codeAt p 10) (a .1))
 
+  -- a cell has the values of the bytes
   combinational-fields : eqb (kindOf p) 1 ≡ true → keepsCombinational nets p ≡ true → combinationalValues (combinationalOf p) ≡ recordFields p
   unfolding keepsCombinational recordFields
   combinational-fields k h =
@@ -66,27 +76,22 @@ module _ (nets : ℕ) (p : List ℕ) where
       rw (eqb-true (kindOf p) 2 k, none, t .0, t .1, t .2)
 
   pub record-values : recordValues (recordOf nets p) ≡ cond (breaksLayout nets p) [] (recordFields p)
-  unfolding recordOf breaksLayout
-  record-values =
-      by-test (not (eqb (length p) 24)) (λ l. rw l)
-      (λ l. by-test (eqb (kindOf p) 1)
-      (λ k. by-test (keepsCombinational nets p) (λ h. rw (l, k, h) (combinational-fields k h)) (λ h. rw (l, k, h, kind-once (kindOf p) k)))
-      (λ k. by-test (eqb (kindOf p) 2)
-      (λ r. by-test (keepsRegister nets p) (λ h. rw (l, k, r, h) (register-fields r h)) (λ h. rw (l, k, r, h)))
-      (λ r. rw (l, k, r))))
+  record-values = record-by recordValues (recordFields p) combinational-fields register-fields
 
   -- what a contract says of an answer that is the definition's
-  pub record-says : {r : Record} → r ≡ recordOf nets p → (r ≡ recordOf nets p) × ((recordNumber r ≡ cond (breaksLayout nets p) (recordNumber Malformed) 0) × (recordValues r ≡ cond (breaksLayout nets p) [] (recordFields p)))
+  pub record-says : {r : Record} → r ≡ recordOf nets p
+      → (r ≡ recordOf nets p)
+      × ((recordNumber r ≡ cond (breaksLayout nets p) (recordNumber Malformed) 0) × (recordValues r ≡ cond (breaksLayout nets p) [] (recordFields p)))
   record-says e = (e, (ap recordNumber e ∙ record-number, ap recordValues e ∙ record-values))
 
 module _ (p : List ℕ) where
-  pub placed-number : placedNumber (placedOf p) ≡ cond (breaksPlace p) (placedNumber OutOfRange) 0
+  -- the same of a place record
+  placed-by : {A : Type 0} (f : Placed → A)
+      → f (placedOf p) ≡ cond (breaksPlace p) (f OutOfRange) (f (At (record { x = byteAt p 0; y = byteAt p 1; le = byteAt p 2 })))
   unfolding placedOf
-  placed-number = by-test (not (eqb (length p) 4)) (λ l. rw l) (λ l. by-test (outOfRange p) (λ o. rw (l, o)) (λ o. rw (l, o)))
+  placed-by f = by-test (not (eqb (length p) 4)) (λ l. rw l) (λ l. by-test (outOfRange p) (λ o. rw (l, o)) (λ o. rw (l, o)))
 
-  pub placed-values : placedValues (placedOf p) ≡ cond (breaksPlace p) [] (placeFields p)
-  unfolding placedOf
-  placed-values = by-test (not (eqb (length p) 4)) (λ l. rw l) (λ l. by-test (outOfRange p) (λ o. rw (l, o)) (λ o. rw (l, o)))
-
-  pub placed-says : {r : Placed} → r ≡ placedOf p → (r ≡ placedOf p) × ((placedNumber r ≡ cond (breaksPlace p) (placedNumber OutOfRange) 0) × (placedValues r ≡ cond (breaksPlace p) [] (placeFields p)))
-  placed-says e = (e, (ap placedNumber e ∙ placed-number, ap placedValues e ∙ placed-values))
+  pub placed-says : {r : Placed} → r ≡ placedOf p
+      → (r ≡ placedOf p)
+      × ((placedNumber r ≡ cond (breaksPlace p) (placedNumber OutOfRange) 0) × (placedValues r ≡ cond (breaksPlace p) [] (placeFields p)))
+  placed-says e = (e, (ap placedNumber e ∙ placed-by placedNumber, ap placedValues e ∙ placed-by placedValues))

@@ -2,14 +2,14 @@
 use Rattle.sheet.proofs.Laws.{passes, stops}
 use Rattle.reader.proofs.Steps.{place-says, le-by, lt-by}
 use mathlib.Core.Path.{refl, sym, ap, _∙_}
-use Rattle.reader.specs.Reader.{placeStepOf, answerStepAt}
+use Rattle.reader.specs.Reader.{placeStepOf, answerStepAt, answerNumberAt, answerValuesAt}
 use denote.Ref.{now}
 use borrow.Author.Needs.{needs}
 use Rattle.reader.proofs.answer_step.Statement.{statement}
 use Rattle.reader.proofs.answer_step.Tie as tie
 
 pub answer-step-spec : {M : Type 1} → statement M
-unfolding answerStepAt
+unfolding answerStepAt answerNumberAt answerValuesAt
 answer-step-spec =
     tie.close
     (tie.spec

@@ -3,14 +3,14 @@ use Rattle.sheet.proofs.Laws.{passes, stops}
 use Rattle.reader.proofs.Steps.{step-says, le-by, lt-by, record-told}
 use mathlib.Core.Path.{refl, ap}
 use Rattle.sheet.specs.declared.Record.the-variants.{Combinational, Register, Malformed}
-use Rattle.reader.specs.Reader.{stepOf, exerciseStepAt}
+use Rattle.reader.specs.Reader.{stepOf, exerciseStepAt, exerciseNumberAt, exerciseValuesAt}
 use denote.Ref.{now}
 use borrow.Author.Needs.{needs}
 use Rattle.reader.proofs.exercise_step.Statement.{statement}
 use Rattle.reader.proofs.exercise_step.Tie as tie
 
 pub exercise-step-spec : {M : Type 1} → statement M
-unfolding exerciseStepAt
+unfolding exerciseStepAt exerciseNumberAt exerciseValuesAt
 exercise-step-spec =
     tie.close
     (tie.spec
