@@ -1,42 +1,104 @@
 #!/usr/bin/env python3
 """Sample sheets for the judge of placement exercises.
 
-    python3 tools/sheets.py make                    write all samples under samples/
-    python3 tools/sheets.py words EXERCISE ANSWER   print two sheets in words
-    python3 tools/sheets.py list                    print one line a sample
+    python3 tools/sheets.py make                            write all samples under samples/
+    python3 tools/sheets.py words [--labs] EXERCISE ANSWER  print two sheets in words,
+                                                            with --labs also what each LAB has
+    python3 tools/sheets.py list                            print one line a sample
 
 This tool builds sheets and prints sheets. It does not judge them. What the judge has to
 answer for a sample is written down next to the sample: the number, the cell, the LAB, the
 apprentice, the culprit and, for a legal answer, the route bytes of each occupied LAB.
+
+To build sheets of your own, import it: see docs/SAMPLES.md. A wrong number is refused with a
+ValueError. Sheets that are wrong on purpose are built with raw_record, raw_exercise,
+raw_answer and patch, which only ask that each number fits its bytes.
 """
 
 import os
+import stat
 import struct
 import sys
 
 # ---------------------------------------------------------------- signals and sheets
 
-OPEN = 0    # unconnected
-GND = 1
-VCC = 2
-F = 255     # a route byte without a need
+MAX_NETS = 1024
+MAX_CELLS = 512
+
+
+class Signal(int):
+    """A signal's code. Only OPEN, GND, VCC and what net() and inv() give are signals, so that
+    a net's number and a signal's code are not taken for each other."""
+
+
+OPEN = Signal(0)    # unconnected
+GND = Signal(1)
+VCC = Signal(2)
+F = 255             # a route byte without a need
 NONE = 65535
 
 
+def whole(what, value, low, high):
+    """The value, which has to be a plain whole number from low to high."""
+    if isinstance(value, Signal):
+        raise ValueError("%s is a number, not the signal %s" % (what, signal_text(value)))
+    if type(value) is not int:
+        raise ValueError("%s is a whole number, not %r" % (what, value))
+    if not low <= value <= high:
+        raise ValueError("%s is %d to %d, not %d" % (what, low, high, value))
+    return value
+
+
 def net(n):
-    """The signal code of net n."""
-    return 4 + 2 * n
+    """Net n, by its number."""
+    return Signal(4 + 2 * whole("a net", n, 0, MAX_NETS - 1))
 
 
 def inv(n):
-    """The signal code of net n inverted."""
-    return 5 + 2 * n
+    """Net n inverted, by its number: inv(3), not inv(net(3))."""
+    return Signal(5 + 2 * whole("a net", n, 0, MAX_NETS - 1))
+
+
+COMB_PORTS = ("dataa", "datab", "datac", "datad", "cin", "combout", "cout",
+              "zero 1", "zero 2", "zero 3", "zero 4")
+REG_PORTS = ("datain", "clk", "ena", "aclr", "sclr", "sload", "sdata", "regout",
+             "zero 1", "zero 2", "zero 3")
+PORTS = {1: COMB_PORTS, 2: REG_PORTS}
+OUTPUTS = ("combout", "cout", "regout")
+
+
+def signal_text(code):
+    """A connected signal in words."""
+    if code < 4:
+        return ("open", "GND", "VCC", "code 3")[code]
+    return ("/net %d" if code % 2 else "net %d") % ((code - 4) // 2)
+
+
+def raw_record(kind, flag, codes):
+    """A cell record of any bytes: kind, flag, up to eleven signals or codes, then zeros."""
+    codes = list(codes)
+    if len(codes) > 11:
+        raise ValueError("a record has 11 signals, not %d" % len(codes))
+    codes = [int(c) if isinstance(c, Signal) else whole("a code", c, 0, 65535) for c in codes]
+    return struct.pack("<BB11H", whole("a kind", kind, 0, 255), whole("a flag", flag, 0, 255),
+                       *(codes + [0] * (11 - len(codes))))
 
 
 def record(kind, flag, signals):
-    """One cell record of an exercise: kind, flag, eleven signals."""
-    signals = list(signals) + [0] * (11 - len(signals))
-    return struct.pack("<BB11H", kind, flag, *signals)
+    """A cell record that keeps the layout: kind, flag, its signals in the order of the ports."""
+    ports = PORTS[whole("a kind", kind, 1, 2)]
+    whole("a register's flag" if kind == 2 else "a flag", flag, 0, 2 - kind)
+    signals = list(signals)
+    for name, signal in zip(ports, signals):
+        if not isinstance(signal, Signal):
+            raise ValueError("%s is a signal (OPEN, GND, VCC, net(n) or inv(n)), not %r"
+                             % (name, signal))
+        if name.startswith("zero") and signal != OPEN:
+            raise ValueError("%s after the ports is 0, not %s" % (name, signal_text(signal)))
+        if name in OUTPUTS and signal != OPEN and (signal < 4 or signal % 2):
+            raise ValueError("%s is an output, so OPEN or net(n), not %s"
+                             % (name, signal_text(signal)))
+    return raw_record(kind, flag, signals)
 
 
 def comb(a=OPEN, b=OPEN, c=OPEN, d=OPEN, cin=OPEN, o=OPEN, cout=OPEN, flag=0):
@@ -50,30 +112,60 @@ def reg(d=OPEN, clk=OPEN, ena=OPEN, aclr=OPEN, sclr=OPEN, sload=OPEN, sdata=OPEN
     return record(2, flag, [d, clk, ena, aclr, sclr, sload, sdata, q])
 
 
+def raw_exercise(nets, *cells):
+    """An exercise sheet of any net count and any records."""
+    for i, cell in enumerate(cells):
+        if not isinstance(cell, bytes) or len(cell) != 24:
+            raise ValueError("cell %d is no record of 24 bytes" % i)
+    return (b"LXE" + struct.pack("<HHH", 1, whole("a net count", nets, 0, 65535),
+                                 whole("a cell count", len(cells), 0, 65535))
+            + b"".join(cells))
+
+
 def exercise(nets, *cells):
-    """An exercise sheet."""
-    return b"LXE" + struct.pack("<HHH", 1, nets, len(cells)) + b"".join(cells)
+    """An exercise sheet; a cell is what comb() or reg() gives."""
+    whole("a net count", nets, 0, MAX_NETS)
+    whole("a cell count", len(cells), 0, MAX_CELLS)
+    sheet = raw_exercise(nets, *cells)
+    for i, cell in enumerate(cells):
+        bad = [w for w in cell_words(cell, nets).split(", ") if "(bad: " in w]
+        if bad:
+            raise ValueError("cell %d: %s" % (i, bad[0]))
+    return sheet
+
+
+def raw_answer(apprentice, *places):
+    """An answer sheet of any apprentice and places; a place is (x, y, LE)."""
+    head = b"LXA" + struct.pack("<HIH", 1, whole("an apprentice", apprentice, 0, 0xffffffff),
+                                whole("a cell count", len(places), 0, 65535))
+    for i, place in enumerate(places):
+        if not isinstance(place, (tuple, list)) or len(place) != 3:
+            raise ValueError("place %d is (x, y, LE), not %r" % (i, place))
+        for name, value in zip(("x", "y", "LE"), place):
+            whole("%s of place %d" % (name, i), value, 0, 255)
+    return head + b"".join(bytes([x, y, le, 0]) for x, y, le in places)
 
 
 def answer(apprentice, *places):
     """An answer sheet; a place is (x, y, LE)."""
-    head = b"LXA" + struct.pack("<HIH", 1, apprentice, len(places))
-    return head + b"".join(bytes([x, y, le, 0]) for x, y, le in places)
+    whole("an apprentice", apprentice, 1, 0xffffffff)
+    whole("a cell count", len(places), 0, MAX_CELLS)
+    sheet = raw_answer(apprentice, *places)
+    for i, place in enumerate(places):
+        for name, value, top in zip(("x", "y", "LE"), place, (31, 31, 15)):
+            whole("%s of place %d" % (name, i), value, 0, top)
+    return sheet
 
 
 def patch(sheet, start, *values):
     """The sheet with the bytes from start on replaced."""
+    whole("the first byte of a patch", start, 0, len(sheet) - len(values))
     return sheet[:start] + bytes(values) + sheet[start + len(values):]
 
 
 # ---------------------------------------------------------------- sheets in words
 
-COMB_PORTS = ("dataa", "datab", "datac", "datad", "cin", "combout", "cout",
-              "zero 1", "zero 2", "zero 3", "zero 4")
-REG_PORTS = ("datain", "clk", "ena", "aclr", "sclr", "sload", "sdata", "regout",
-             "zero 1", "zero 2", "zero 3")
 RAW_PORTS = tuple("signal %d" % i for i in range(11))
-OUTPUTS = ("combout", "cout", "regout")
 
 
 def count_of(n, what):
@@ -84,6 +176,17 @@ def hexes(data):
     """Bytes in hexadecimal, the first sixteen of them."""
     text = " ".join("%02x" % b for b in data[:16])
     return text + (" ..." if len(data) > 16 else "")
+
+
+class FilePart(bytes):
+    """The first bytes of a file, and how many it has."""
+
+    file_size = 0
+
+
+def size_of(data):
+    """The size of a sheet, of which a FilePart holds only the first bytes."""
+    return max(len(data), getattr(data, "file_size", 0))
 
 
 def number_at(data, start, size):
@@ -98,23 +201,15 @@ def signal_words(name, code, nets):
     if code == 0:
         return None
     bad = ""
-    if code == 1:
-        text = "GND"
-    elif code == 2:
-        text = "VCC"
-    elif code == 3:
-        text = "code 3"
+    if code == 3:
         bad = " (bad: no such signal)"
-    else:
-        n = (code - 4) // 2
-        text = ("/net %d" if code % 2 else "net %d") % n
-        if n >= nets:
-            bad = " (bad: the sheet has %s)" % count_of(nets, "net")
+    elif code >= 4 and (code - 4) // 2 >= nets:
+        bad = " (bad: the sheet has %s)" % count_of(nets, "net")
     if not bad and name.startswith("zero"):
         bad = " (bad: must be 0)"
     if not bad and name in OUTPUTS and (code < 4 or code % 2):
         bad = " (bad: an output is an uninverted net)"
-    return "%s=%s%s" % (name, text, bad)
+    return "%s=%s%s" % (name, signal_text(code), bad)
 
 
 def cell_words(data, nets):
@@ -138,6 +233,11 @@ def cell_words(data, nets):
     return ", ".join(parts)
 
 
+def lab_of(place):
+    """The LAB of a whole answer record, 32y + x, or None where x or y is out of range."""
+    return 32 * place[1] + place[0] if place[0] < 32 and place[1] < 32 else None
+
+
 def place_words(data):
     """One whole answer record in words."""
     parts = []
@@ -146,7 +246,8 @@ def place_words(data):
         parts.append("%s %d%s" % (name, value, bad))
     if data[3]:
         parts.append("last byte %d (bad: must be 0)" % data[3])
-    return "place " + " ".join(parts)
+    lab = lab_of(data)
+    return "place " + " ".join(parts) + ("" if lab is None else ", LAB %d" % lab)
 
 
 def part_words(what, data, start, size, whole):
@@ -163,7 +264,7 @@ def head_words(what, data, mark, size, fields):
     """The header of a sheet in words. Fields are (name, start, size, complaint)."""
     if data is None:
         return ["%s: no file, counts as empty" % what]
-    lines = ["%s: %s" % (what, count_of(len(data), "byte"))]
+    lines = ["%s: %s" % (what, count_of(size_of(data), "byte"))]
     if len(data) < size:
         lines.append("  header cut short, %d of %d bytes: %d missing"
                      % (len(data), size, size - len(data)))
@@ -201,14 +302,17 @@ def tail_words(data, head, size, cells, shown):
         else:
             lines.append("  records missing for cells %d to %d" % (shown, cells - 1))
     end = head + size * cells
-    if len(data) > end:
+    if size_of(data) > end:
+        left = size_of(data) - end
+        more = " ..." if left > 16 else ""
         lines.append("  %s left over at the end: %s"
-                     % (count_of(len(data) - end, "byte"), hexes(data[end:])))
+                     % (count_of(left, "byte"), hexes(data[end:end + 16]) + more))
     return lines
 
 
-def words(ex, an):
-    """Two sheets in words. Each is a byte run, or None for a missing file."""
+def words(ex, an, labs=False):
+    """Two sheets in words, with labs also what each LAB has. Each sheet is a byte run, or None
+    for a missing file."""
     version_bad = lambda v: "" if v == 1 else "must be 1"
     lines = head_words("exercise", ex, b"LXE", 9, [
         ("version", 3, 2, version_bad),
@@ -242,7 +346,105 @@ def words(ex, an):
         else:
             right = "no place on the answer sheet"
         lines.append("cell %d: %s; %s" % (i, left, right))
+    if labs:
+        lines += labs_words(ex, an, min(ex_shown, an_shown))
     return "\n".join(lines) + "\n"
+
+
+# ---------------------------------------------------------------- what each LAB has
+
+ROLES = ("clk", "ena", "aclr", "sclr", "sload")
+
+
+class Lab:
+    """What the cells of one LAB bring, as document 01 counts it for rules 60 to 65. Each of
+    clk, pairs, aclr, sclr and sload has the distinct signals, each with the cells that bring it
+    and the ports that do so by being open."""
+
+    def __init__(self):
+        self.cells = []
+        self.clk, self.pairs, self.aclr, self.sclr, self.sload = {}, {}, {}, {}, {}
+        self.read, self.driven, self.needs = set(), set(), set()
+
+    def add(self, i, data):
+        """Cell i, by its record. One of another kind than 1 and 2 brings nothing."""
+        self.cells.append(i)
+        codes = struct.unpack("<11H", data[2:24])
+        port = dict(zip(PORTS.get(data[0], ()), codes))
+        for name, code in port.items():
+            if code >= 4 and not name.startswith("zero") and name != "cin":
+                (self.driven if name in OUTPUTS else self.read).add((code - 4) // 2)
+        if data[0] == 2:
+            self.add_register(i, port)
+
+    def add_register(self, i, port):
+        used = port["regout"] != OPEN
+        clk = port["clk"] or (GND if used else OPEN)
+        ena = port["ena"] or (VCC if used else OPEN)
+        aclr = port["aclr"] or (GND if used else OPEN)
+
+        def bring(counted, signal, *names):
+            is_open = [name for name in names if port[name] == OPEN]
+            counted.setdefault(signal, []).append((i, is_open))
+
+        if clk != OPEN:
+            bring(self.clk, clk, "clk")
+            bring(self.pairs, (clk, ena), "clk", "ena")
+        if aclr != OPEN:
+            bring(self.aclr, aclr, "aclr")
+        if port["sclr"] not in (OPEN, GND):
+            bring(self.sclr, port["sclr"], "sclr")
+        if port["sload"] not in (OPEN, GND):
+            bring(self.sload, port["sload"], "sload")
+        for role, name in enumerate(ROLES):
+            if port[name] >= 4:
+                self.needs.add((role, port[name]))
+
+    def nets_in(self):
+        """The nets that rule 64 counts: read at any port but cin and not driven in the LAB."""
+        return sorted(self.read - self.driven)
+
+    def lines(self, number):
+        def brought(counted, text):
+            return ["    %s: %s" % (text(signal), ", ".join(
+                        "cell %d" % i + (" (%s open)" % " and ".join(is_open) if is_open else "")
+                        for i, is_open in counted[signal]))
+                    for signal in sorted(counted)]
+
+        pair_text = lambda pair: "(%s, %s)" % (signal_text(pair[0]), signal_text(pair[1]))
+        out = ["lab %d, x %d y %d: %s: %s" % (number, number % 32, number // 32,
+                                              count_of(len(self.cells), "cell"),
+                                              " ".join(str(i) for i in self.cells))]
+        for name, counted, text in (("clk", self.clk, signal_text),
+                                    ("(clk, ena)", self.pairs, pair_text),
+                                    ("aclr", self.aclr, signal_text),
+                                    ("sclr", self.sclr, signal_text),
+                                    ("sload", self.sload, signal_text)):
+            out.append("  %s: %d" % (name, len(counted)))
+            out += brought(counted, text)
+        for name, items in (("nets in", [str(n) for n in self.nets_in()]),
+                            ("needs", ["%s %s" % (ROLES[role], signal_text(code))
+                                       for role, code in sorted(self.needs)])):
+            out.append("  %s: %d" % (name, len(items)))
+            if items:
+                out.append("    " + ", ".join(items))
+        return out
+
+
+def labs_of(ex, an, cells):
+    """The LABs of the cells that have a whole record and a place with a LAB."""
+    labs = {}
+    for i in range(cells):
+        data, place = ex[9 + 24 * i:33 + 24 * i], an[11 + 4 * i:15 + 4 * i]
+        if len(data) == 24 and len(place) == 4 and lab_of(place) is not None:
+            labs.setdefault(lab_of(place), Lab()).add(i, data)
+    return labs
+
+
+def labs_words(ex, an, cells):
+    """What each LAB has, in words, the LABs rising."""
+    labs = labs_of(ex, an, cells)
+    return [line for number in sorted(labs) for line in labs[number].lines(number)]
 
 
 # ---------------------------------------------------------------- expected answers
@@ -343,8 +545,8 @@ def wide_cells():
 
 def long_shift(cells):
     """One shift register: clk net 0, serial input net 1, outputs from net 2 on."""
-    return exercise(2 + cells, *[reg(d=net(1 + i), clk=net(0), q=net(2 + i))
-                                 for i in range(cells)])
+    return raw_exercise(2 + cells, *[reg(d=net(1 + i), clk=net(0), q=net(2 + i))
+                                     for i in range(cells)])
 
 
 def edge_samples():
@@ -374,7 +576,7 @@ def edge_samples():
            LISTING_EX, answer(15, (2, 1, 15), (2, 1, 15)),
            legal(15, 19, {34: [0, F, F, F, 1, F, F, F]}))
     sample("edge-le-16", "cell 1 stands in LE 16, which there is not",
-           LISTING_EX, answer(16, (2, 1, 15), (2, 1, 16)),
+           LISTING_EX, raw_answer(16, (2, 1, 15), (2, 1, 16)),
            Expected(26, ("answer", 15, 4), cell=1, apprentice=16))
 
     sample("edge-512-cells", "512 cells, the most: one shift register over 32 LABs",
@@ -382,7 +584,7 @@ def edge_samples():
            legal(512, 2059, {992 + i: [0, F, F, F, F, F, F, F] for i in range(32)}))
     sample("edge-513-cells", "513 cells, one too many",
            long_shift(513),
-           answer(513, *[(i // 16, 31, i % 16) for i in range(512)], (0, 30, 0)),
+           raw_answer(513, *[(i // 16, 31, i % 16) for i in range(512)], (0, 30, 0)),
            Expected(13, ("exercise", 0, 9)))
 
     sample("edge-1024-nets", "1,024 nets, the most, and the last LAB",
@@ -488,7 +690,7 @@ def exercise_sheet_samples():
            patch(LISTING_EX, 3, 0, 1, 0, 4, 0, 2), LISTING_AN,
            Expected(12, ("exercise", 0, 9)))
     sample("v13-nets", "1,025 nets, one too many",
-           exercise(1025, *LISTING_CELLS), LISTING_AN, Expected(13, ("exercise", 0, 9)))
+           raw_exercise(1025, *LISTING_CELLS), LISTING_AN, Expected(13, ("exercise", 0, 9)))
     sample("v14-byte-missing", "the last byte of the exercise is missing",
            LISTING_EX[:-1], LISTING_AN, Expected(14, ("exercise", 0, 9)))
     sample("v14-byte-left-over", "one byte too many on the exercise",
@@ -497,23 +699,26 @@ def exercise_sheet_samples():
     three = answer(7, (2, 1, 0), (2, 1, 0), (2, 1, 1))
 
     def fault(name, why, cell, number=15):
-        sample(name, why, exercise(6, *LISTING_CELLS, cell), three,
+        sample(name, why, raw_exercise(6, *LISTING_CELLS, cell), three,
                Expected(number, ("exercise", 57, 24), cell=2))
 
-    fault("v15-kind", "cell 2 is of kind 3", record(3, 0, []))
+    fault("v15-kind", "cell 2 is of kind 3", raw_record(3, 0, []))
     fault("v15-flag", "cell 2, combinational, has flag 2",
-          comb(a=net(0), o=net(4), flag=2))
+          raw_record(1, 2, [net(0), 0, 0, 0, 0, net(4)]))
     fault("v15-register-flag", "cell 2, a register, has flag 1",
-          reg(d=net(0), clk=net(1), q=net(4), flag=1))
-    fault("v15-code-3", "cell 2 reads signal code 3", comb(a=net(0), b=3, o=net(4)))
+          raw_record(2, 1, [net(0), net(1), 0, 0, 0, 0, 0, net(4)]))
+    fault("v15-code-3", "cell 2 reads signal code 3",
+          raw_record(1, 0, [net(0), 3, 0, 0, 0, net(4)]))
     fault("v15-net-too-high", "cell 2 reads net 6 of 6", comb(a=net(6), o=net(4)))
     fault("v15-output-inverted", "cell 2 drives an inverted net",
-          comb(a=net(0), o=inv(4)))
-    fault("v15-output-constant", "cell 2 drives VCC", reg(d=net(0), clk=net(1), q=VCC))
+          raw_record(1, 0, [net(0), 0, 0, 0, 0, inv(4)]))
+    fault("v15-output-constant", "cell 2 drives VCC",
+          raw_record(2, 0, [net(0), net(1), 0, 0, 0, 0, 0, VCC]))
     fault("v15-trailing-signal", "the last of the four zeros of cell 2 is GND",
-          record(1, 0, [net(0), 0, 0, 0, 0, net(4), 0, 0, 0, 0, GND]))
+          raw_record(1, 0, [net(0), 0, 0, 0, 0, net(4), 0, 0, 0, 0, GND]))
     sample("v15-before-16", "cell 1 breaks 16, cell 2 breaks 15: 15 is asked of all cells first",
-           exercise(6, LISTING_CELLS[0], comb(a=net(0), o=net(3)), record(3, 0, [])), three,
+           raw_exercise(6, LISTING_CELLS[0], comb(a=net(0), o=net(3)), raw_record(3, 0, [])),
+           three,
            Expected(15, ("exercise", 57, 24), cell=2))
 
     fault("v16-two-drivers", "cell 2 drives net 3, as cell 0 does",
@@ -538,7 +743,7 @@ def answer_sheet_samples():
     sample("v22-version", "version 0",
            LISTING_EX, patch(LISTING_AN, 3, 0, 0), Expected(22, ("answer", 0, 11)))
     sample("v23-no-apprentice", "apprentice 0",
-           LISTING_EX, answer(0, (2, 1, 0), (2, 1, 0)), Expected(23, ("answer", 0, 11)))
+           LISTING_EX, raw_answer(0, (2, 1, 0), (2, 1, 0)), Expected(23, ("answer", 0, 11)))
     sample("v24-cell-count", "three places for two cells",
            LISTING_EX, answer(24, (2, 1, 0), (2, 1, 0), (2, 1, 1)),
            Expected(24, ("answer", 0, 11), apprentice=24))
@@ -550,10 +755,10 @@ def answer_sheet_samples():
     sample("v25-byte-left-over", "one byte too many on the answer",
            LISTING_EX, LISTING_AN + b"\0", Expected(25, ("answer", 0, 11), apprentice=7))
     sample("v26-x", "cell 1 stands at x 32",
-           LISTING_EX, answer(261, (2, 1, 0), (32, 1, 0)),
+           LISTING_EX, raw_answer(261, (2, 1, 0), (32, 1, 0)),
            Expected(26, ("answer", 15, 4), cell=1, apprentice=261))
     sample("v26-y", "cell 1 stands at y 32",
-           LISTING_EX, answer(262, (2, 1, 0), (2, 32, 0)),
+           LISTING_EX, raw_answer(262, (2, 1, 0), (2, 32, 0)),
            Expected(26, ("answer", 15, 4), cell=1, apprentice=262))
     sample("v26-last-byte", "the last byte of cell 1's place is 1",
            LISTING_EX, patch(LISTING_AN, 18, 1),
@@ -908,7 +1113,7 @@ def put(places, first, count, x, y, le):
 
 
 def class_answer(apprentice, places, cells=62):
-    return answer(apprentice, *[places[i] for i in range(cells)])
+    return raw_answer(apprentice, *[places[i] for i in range(cells)])
 
 
 # Routes of the blocks when each has a LAB of its own.
@@ -1078,10 +1283,7 @@ def write(folder, name, data):
 def make(root):
     for name, _, ex, an, expected in all_samples():
         folder = os.path.join(root, name)
-        os.makedirs(folder, exist_ok=True)
-        write(folder, "exercise.lxe", ex)
-        write(folder, "answer.lxa", an)
-        write(folder, "words.txt", words(ex, an))
+        save(folder, ex, an)
         write(folder, "expected.txt", expected.expected_lines())
         write(folder, "listing.txt", expected.listing())
 
@@ -1111,25 +1313,66 @@ def list_samples():
     return "\n".join(lines) + "\n"
 
 
-def read_sheet(path):
-    """The bytes of a file, or None where it cannot be read."""
-    try:
-        with open(path, "rb") as file:
-            return file.read()
-    except OSError:
-        return None
+def save(folder, ex, an):
+    """Write two sheets and their words into a folder, which is made where it is not there."""
+    os.makedirs(folder, exist_ok=True)
+    write(folder, "exercise.lxe", ex)
+    write(folder, "answer.lxa", an)
+    write(folder, "words.txt", words(ex, an))
 
 
-def main(args):
+def read_sheet(path, head, size):
+    """The bytes of a regular file that can be shown: the head, as many records of that size as
+    a count of 16 bits can say, and some of what is left over."""
+    handle = os.open(path, os.O_RDONLY | os.O_NONBLOCK)
+    with os.fdopen(handle, "rb") as file:
+        status = os.fstat(handle)
+        if not stat.S_ISREG(status.st_mode):
+            raise OSError("is no regular file")
+        part = FilePart(file.read(head + size * 65535 + 16))
+        part.file_size = status.st_size
+        return part
+
+
+def read_sheets(ex_path, an_path):
+    """Two files, or one line about the first that can't be read."""
+    sheets = []
+    for path, head, size in ((ex_path, 9, 24), (an_path, 11, 4)):
+        try:
+            sheets.append(read_sheet(path, head, size))
+        except (OSError, ValueError) as error:
+            raise OSError("%s: %s" % (path, getattr(error, "strerror", None) or error))
+    return sheets
+
+
+def run(args):
+    """The command's output, or None where there is no such command."""
     here = os.path.dirname(os.path.abspath(__file__))
     if args == ["make"]:
         make(os.path.join(os.path.dirname(here), "samples"))
-    elif args == ["list"]:
-        sys.stdout.write(list_samples())
-    elif len(args) == 3 and args[0] == "words":
-        sys.stdout.write(words(read_sheet(args[1]), read_sheet(args[2])))
-    else:
-        sys.stderr.write(__doc__)
+        return ""
+    if args == ["list"]:
+        return list_samples()
+    if args[:1] == ["words"]:
+        labs = args[1:2] == ["--labs"]
+        paths = args[2:] if labs else args[1:]
+        if len(paths) == 2:
+            return words(*read_sheets(*paths), labs=labs)
+    return None
+
+
+def main(args):
+    try:
+        text = run(args)
+        if text is None:
+            sys.stderr.write(__doc__)
+            return 2
+        sys.stdout.write(text)
+        sys.stdout.flush()
+    except OSError as error:
+        sys.stderr.write("sheets.py: %s\n" % error)
+        # What could not be written is given up, so that it is not tried again at the end.
+        os.dup2(os.open(os.devnull, os.O_WRONLY), sys.stdout.fileno())
         return 2
     return 0
 

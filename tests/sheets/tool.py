@@ -1,0 +1,200 @@
+"""Tests tools/sheets.py: tool.py TOP. Wrong numbers and wrong files are refused, and nothing else is."""
+
+import os
+import random
+import resource
+import subprocess
+import sys
+import tempfile
+
+TOP = sys.argv[1]
+TOOL = os.path.join(TOP, "tools", "sheets.py")
+sys.path.insert(0, os.path.join(TOP, "tools"))
+import sheets  # noqa: E402
+from sheets import (GND, OPEN, VCC, Signal, answer, comb, exercise, inv, net, patch,  # noqa: E402
+                    raw_answer, raw_exercise, raw_record, record, reg, save, words)
+
+CELL = comb(a=net(0), o=net(1))
+
+
+def refused(part, call):
+    """The call is refused with a ValueError of one line that has this part."""
+    try:
+        got = call()
+    except ValueError as error:
+        assert part in str(error) and "\n" not in str(error), (part, str(error))
+        return
+    raise AssertionError("not refused (%s): %r" % (part, got))
+
+
+def numbers_refused():
+    for make in (net, inv):
+        for n in (-1, 1024, 65536, -2):
+            refused("a net is 0 to 1023, not %d" % n, lambda: make(n))
+        for n in (3.0, "3", None, True, b"3", [3]):
+            refused("a net is a whole number", lambda: make(n))
+        refused("a net is a number, not the signal net 3", lambda: make(net(3)))
+        refused("a net is a number, not the signal /net 3", lambda: make(inv(3)))
+        for constant, name in ((OPEN, "open"), (GND, "GND"), (VCC, "VCC")):
+            refused("not the signal " + name, lambda: make(constant))
+
+    # At every port a number is refused, also one that is a code.
+    for port in ("a", "b", "c", "d", "cin", "o", "cout"):
+        for n in (0, 1, 4, 5, net(3) + 0, "GND", None, 1.0):
+            refused(" is a signal (OPEN, GND, VCC, net(n) or inv(n))", lambda: comb(**{port: n}))
+    for port in ("d", "clk", "ena", "aclr", "sclr", "sload", "sdata", "q"):
+        for n in (0, 1, 4, 5, net(3) + 2):
+            refused(" is a signal (OPEN, GND, VCC, net(n) or inv(n))", lambda: reg(**{port: n}))
+    for signal in (GND, VCC, inv(3)):
+        refused("combout is an output", lambda: comb(o=signal))
+        refused("cout is an output", lambda: comb(cout=signal))
+        refused("regout is an output", lambda: reg(q=signal))
+    refused("a flag is 0 to 1, not 2", lambda: comb(flag=2))
+    refused("a flag is a whole number", lambda: comb(flag=True))
+    refused("a register's flag is 0 to 0, not 1", lambda: reg(flag=1))
+    refused("a kind is 1 to 2, not 3", lambda: record(3, 0, []))
+    refused("zero 1 after the ports is 0, not GND", lambda: record(2, 0, [OPEN] * 8 + [GND]))
+    refused("a record has 11 signals, not 12", lambda: record(1, 0, [OPEN] * 12))
+
+    refused("a net count is 0 to 1024, not 1025", lambda: exercise(1025))
+    refused("a net count is 0 to 1024, not -1", lambda: exercise(-1))
+    refused("a net count is a number, not the signal net 2", lambda: exercise(net(2), CELL))
+    refused("a cell count is 0 to 512, not 513", lambda: exercise(2, *[CELL] * 513))
+    refused("cell 0 is no record of 24 bytes", lambda: exercise(2, [CELL]))
+    refused("cell 1 is no record of 24 bytes", lambda: exercise(2, CELL, CELL[:-1]))
+    refused("cell 1: dataa=net 2 (bad: the sheet has 2 nets)", lambda: exercise(2, CELL, comb(a=net(2))))
+    refused("cell 0: datab=/net 5 (bad: the sheet has 2 nets)", lambda: exercise(2, comb(b=inv(5))))
+    refused("cell 0: datab=code 3 (bad: no such signal)", lambda: exercise(2, raw_record(1, 0, [0, 3])))
+    refused("cell 0: kind 3 (bad: must be 1 or 2)", lambda: exercise(2, raw_record(3, 0, [])))
+
+    refused("an apprentice is 1 to 4294967295, not 0", lambda: answer(0))
+    refused("an apprentice is 1 to 4294967295, not 4294967296", lambda: answer(2 ** 32))
+    refused("a cell count is 0 to 512, not 513", lambda: answer(1, *[(0, 0, 0)] * 513))
+    refused("x of place 1 is 0 to 31, not 32", lambda: answer(1, (0, 0, 0), (32, 0, 0)))
+    refused("y of place 0 is 0 to 31, not 32", lambda: answer(1, (0, 32, 0)))
+    refused("LE of place 0 is 0 to 15, not 16", lambda: answer(1, (0, 0, 16)))
+    refused("LE of place 0 is 0 to 255, not -1", lambda: answer(1, (0, 0, -1)))
+    refused("place 0 is (x, y, LE), not (1, 2)", lambda: answer(1, (1, 2)))
+    refused("place 0 is (x, y, LE), not 5", lambda: answer(1, 5, 3, 0))
+    refused("place 0 is (x, y, LE)", lambda: answer(1, [(1, 2, 3), (1, 2, 4)]))
+
+    # The raw forms ask only that a number fits.
+    refused("a code is 0 to 65535, not 65536", lambda: raw_record(1, 0, [65536]))
+    refused("a kind is 0 to 255, not 256", lambda: raw_record(256, 0, []))
+    refused("a flag is 0 to 255, not -1", lambda: raw_record(1, -1, []))
+    refused("a net count is 0 to 65535, not 65536", lambda: raw_exercise(65536))
+    refused("an apprentice is 0 to 4294967295, not -1", lambda: raw_answer(-1))
+    refused("x of place 0 is 0 to 255, not 256", lambda: raw_answer(1, (256, 0, 0)))
+    refused("the first byte of a patch is 0 to 8, not 9", lambda: patch(bytes(9), 9, 1))
+    refused("the first byte of a patch is 0 to 8, not -1", lambda: patch(bytes(9), -1, 1))
+    refused("range", lambda: patch(bytes(9), 0, 256))
+
+
+def numbers_taken():
+    assert (net(0), net(1023), inv(0), inv(1023)) == (4, 2050, 5, 2051)
+    assert all(isinstance(s, Signal) for s in (OPEN, GND, VCC, net(3), inv(3)))
+    assert exercise(1024, *[comb(a=inv(1023), flag=1)] * 512)[5:9] == b"\x00\x04\x00\x02"
+    assert exercise(0) == b"LXE\1\0\0\0\0\0"
+    assert answer(2 ** 32 - 1, (31, 31, 15), [0, 0, 0]) == b"LXA\1\0\xff\xff\xff\xff\2\0\37\37\17\0\0\0\0\0"
+    assert len(exercise(2, *[CELL] * 512)) == 12297 and len(answer(1, *[(0, 0, 0)] * 512)) == 2059
+    assert record(2, 0, [net(0)]) == reg(d=net(0)) and record(1, 1, []) == comb(flag=1)
+    assert raw_record(255, 255, [3, net(2), 65535])[:8] == b"\xff\xff\3\0\x08\0\xff\xff"
+    assert raw_exercise(65535)[5:7] == b"\xff\xff" and raw_answer(0, (255, 255, 255))[5:15] == b"\0\0\0\0\1\0\xff\xff\xff\0"
+    assert patch(bytes(3), 1, 7, 8) == b"\0\7\x08" and patch(bytes(3), 3) == bytes(3)
+
+
+def any_bytes():
+    """Any two runs of bytes can be told in words."""
+    rng = random.Random(5)
+    heads = [b"", b"LXE\1\0\4\0\2\0", b"LXA\1\0\7\0\0\0\2\0", b"LXE\1\0\xff\xff\xff\xff"]
+    for _ in range(2000):
+        ex, an = (rng.choice(heads) + bytes(rng.choice([0, 1, 2, 3, 4, 6, 255, rng.randrange(256)])
+                                            for _ in range(rng.randrange(80))) for _ in range(2))
+        ex, an = (None if rng.random() < 0.05 else sheet for sheet in (ex, an))
+        assert words(ex, an, labs=True).startswith(words(ex, an)), (ex, an)
+
+
+def limited():
+    """The room of the tool when it is run: half a GiB, and ten seconds."""
+    resource.setrlimit(resource.RLIMIT_AS, (2 ** 29, 2 ** 29))
+
+
+def command(*args, **options):
+    return subprocess.run([sys.executable, "-B", TOOL, *args], text=True, timeout=10,
+                          preexec_fn=limited, stdin=subprocess.DEVNULL, stderr=subprocess.PIPE,
+                          stdout=options.get("stdout", subprocess.PIPE))
+
+
+def one_line(part, *args, **options):
+    """The command is refused: one line that has this part, status 2, no output."""
+    done = command(*args, **options)
+    assert done.returncode == 2 and not done.stdout, (args, done)
+    assert part in done.stderr and done.stderr.count("\n") == 1, (args, done.stderr)
+
+
+def files(folder):
+    at = lambda name: os.path.join(folder, name)
+    ex = os.path.join(TOP, "samples", "listing", "exercise.lxe")
+    an = os.path.join(TOP, "samples", "listing", "answer.lxa")
+    os.mkfifo(at("fifo"))
+    os.mkdir(at("folder"))
+    for wrong, why in (("missing", "No such file"), ("folder", "Is a directory"),
+                       ("fifo", "no regular file"), ("exercise/none", "No such file")):
+        one_line(why, "words", at(wrong), an)
+        one_line(at(wrong), "words", ex, at(wrong))
+        one_line(why, "words", "--labs", ex, at(wrong))
+    one_line("/dev/zero: is no regular file", "words", "/dev/zero", an)
+    if os.path.exists("/dev/full"):
+        with open("/dev/full", "w") as full:
+            one_line("No space left", "words", ex, an, stdout=full)
+
+    # Of a file without end no more is read than can be shown; what is said of it is right.
+    with open(at("huge"), "wb") as file:
+        file.write(raw_exercise(4, *sheets.LISTING_CELLS))
+        file.truncate(2 ** 40)
+    done = command("words", at("huge"), an)
+    assert done.returncode == 0, done.stderr
+    assert done.stdout.startswith("exercise: 1099511627776 bytes\n"), done.stdout
+    assert "\n  1099511627719 bytes left over at the end: 00 00 00 00 00 00 00 00 00 00 00 00 00 00 00 00 ...\n" in done.stdout
+    with open(at("many"), "wb") as file:
+        file.write(b"LXA\1\0\7\0\0\0\xff\xff")
+        file.truncate(2 ** 40)
+    done = command("words", "--labs", ex, at("many"))
+    assert done.returncode == 0 and "\ncell 65534: no record on the exercise sheet; place x 0 y 0 LE 0, LAB 0\n" in done.stdout
+
+    # A call that is none gets the help.
+    for args in ([], ["word"], ["words"], ["words", ex], ["words", ex, an, an], ["words", "--labs", ex], ["make", "x"], ["list", "x"]):
+        done = command(*args)
+        assert done.returncode == 2 and not done.stdout and "sheets.py words" in done.stderr, args
+
+    save(at("own/deep"), exercise(2, CELL), answer(1, (0, 0, 0)))
+    done = command("words", at("own/deep/exercise.lxe"), at("own/deep/answer.lxa"))
+    with open(at("own/deep/words.txt")) as file:
+        assert done.stdout == file.read() and done.returncode == 0
+
+
+def stored_words():
+    """The command prints what is stored beside each sample."""
+    root = os.path.join(TOP, "samples")
+    told = 0
+    for name, _, ex, an, _ in sheets.all_samples():
+        if ex is None or an is None:
+            continue
+        paths = [os.path.join(root, name, file) for file in ("exercise.lxe", "answer.lxa")]
+        with open(os.path.join(root, name, "words.txt")) as file:
+            assert sheets.run(["words"] + paths) == file.read(), name
+        told += 1
+    assert told > 90, told
+
+
+def main():
+    numbers_refused()
+    numbers_taken()
+    any_bytes()
+    stored_words()
+    with tempfile.TemporaryDirectory() as folder:
+        files(folder)
+    print("sheets: the tool refuses wrong numbers and files")
+
+
+main()

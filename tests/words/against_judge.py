@@ -1,0 +1,363 @@
+"""Holds what `sheets.py words --labs` prints against the judge: against_judge.py TOP PAIRS SEED.
+
+The printed text alone is read: from it the first LAB that breaks one of 60 to 65 is found, all
+ways tried one by one, and the judge has to name that LAB with that number, or say legal with the
+routes that follow from the printed needs.
+"""
+
+import ctypes
+import itertools
+import os
+import random
+import re
+import sys
+
+TOP, PAIRS, SEED = sys.argv[1], int(sys.argv[2]), int(sys.argv[3])
+sys.path.insert(0, os.path.join(TOP, "tools"))
+from sheets import GND, OPEN, VCC, answer, comb, exercise, inv, net, reg, words  # noqa: E402
+
+library = ctypes.CDLL(os.path.join(TOP, "target", "words", "libnurimkkot.so"))
+library.nurimkkot_judge.restype = None
+library.nurimkkot_judge.argtypes = [ctypes.c_char_p, ctypes.c_size_t, ctypes.c_char_p,
+                                    ctypes.c_size_t, ctypes.c_void_p, ctypes.c_size_t,
+                                    ctypes.c_void_p]
+NONE = 65535
+
+
+def judge(ex, an):
+    """Number, cell, LAB, apprentice, sheet, start and length, and the route buffer."""
+    numbers = (ctypes.c_uint64 * 7)()
+    route = (ctypes.c_uint8 * 8192)()
+    library.nurimkkot_judge(ex, len(ex), an, len(an), route, 8192, numbers)
+    return list(numbers), bytes(route)
+
+
+# ---------------------------------------------------------------- what is printed
+
+ROLES = ["clk", "ena", "aclr", "sclr", "sload"]
+SERVING = {"clk": (0, 1, 2), "ena": (2, 3), "aclr": (1, 4), "sclr": (4, 5), "sload": (3, 5)}
+BYTES = {"clk": (0, 1), "ena": (2, 3), "aclr": (4, 5), "sclr": (6,), "sload": (7,)}
+CELL = re.compile(r"cell (\d+): (combinational|register), flag [01](.*); "
+                  r"place x (\d+) y (\d+) LE (\d+), LAB (\d+)")
+LAB = re.compile(r"lab (\d+), x (\d+) y (\d+): (\d+) cells?: ([\d ]+)")
+COUNT = re.compile(r"  (clk|\(clk, ena\)|aclr|sclr|sload|nets in|needs): (\d+)")
+BROUGHT = re.compile(r"    (\(.+?\)|GND|VCC|/?net \d+): (cell .*)")
+
+
+def read_cells(text):
+    """The cells as they are printed: number -> (kind, ports, LAB)."""
+    cells = {}
+    for line in text.splitlines():
+        if line.startswith("cell "):
+            i, kind, ports, x, y, _, lab = CELL.fullmatch(line).groups()
+            assert int(lab) == 32 * int(y) + int(x), line
+            ports = dict(port.split("=") for port in ports.split(", ")[1:])
+            cells[int(i)] = (kind, ports, int(lab))
+    return cells
+
+
+def read_labs(text):
+    """The LABs as they are printed: number -> what it has. Each count is that of its items."""
+    labs, lab, items, count = {}, None, None, None
+    for line in text.splitlines()[1:] + ["end"]:
+        if items is not None and not line.startswith("    "):
+            assert len(items) == count, (line, items, count)
+        if LAB.fullmatch(line):
+            number, x, y, cells, names = LAB.fullmatch(line).groups()
+            assert (int(x), int(y)) == (int(number) % 32, int(number) // 32), line
+            lab = labs[int(number)] = {"cells": [int(n) for n in names.split()]}
+            assert len(lab["cells"]) == int(cells), line
+            items = None
+        elif lab is not None and line.startswith("    "):
+            if isinstance(items, list):
+                items += line.strip().split(", ")
+            else:
+                signal, cells = BROUGHT.fullmatch(line).groups()
+                assert signal not in items, line
+                items[signal] = cells
+        elif lab is not None and line.startswith("  "):
+            name, count = COUNT.fullmatch(line).groups()
+            count = int(count)
+            items = lab[name] = [] if name in ("nets in", "needs") else {}
+    assert list(labs) == sorted(labs)
+    return labs
+
+
+def brought(cells, lab):
+    """What the registers of a LAB bring, from the lines of the cells alone."""
+    out = {"clk": {}, "(clk, ena)": {}, "aclr": {}, "sclr": {}, "sload": {}}
+
+    def bring(name, signal, i, *is_open):
+        note = " (%s open)" % " and ".join(is_open) if is_open else ""
+        out[name].setdefault(signal, []).append("cell %d%s" % (i, note))
+
+    for i, (kind, ports, where) in cells.items():
+        if where != lab or kind != "register":
+            continue
+        default = {"clk": "GND", "ena": "VCC", "aclr": "GND"} if "regout" in ports else {}
+        note = lambda *names: [name for name in names if name not in ports]
+        value = {name: ports.get(name, default.get(name)) for name in ROLES}
+        if value["clk"]:
+            bring("clk", value["clk"], i, *note("clk"))
+            bring("(clk, ena)", "(%s, %s)" % (value["clk"], value["ena"]), i,
+                  *note("clk", "ena"))
+        if value["aclr"]:
+            bring("aclr", value["aclr"], i, *note("aclr"))
+        for name in ("sclr", "sload"):
+            if value[name] not in (None, "GND"):
+                bring(name, value[name], i)
+    return {name: {signal: ", ".join(cells) for signal, cells in counted.items()}
+            for name, counted in out.items()}
+
+
+def nets_in(cells, lab):
+    """The nets that a LAB's cells read at ports but cin and that none of them drives, from the
+    lines of the cells alone."""
+    ports = [(name, signal.lstrip("/")) for _, ports, where in cells.values() if where == lab
+             for name, signal in ports.items() if "net" in signal and name != "cin"]
+    driven = {signal for name, signal in ports if name.endswith("out")}
+    return sorted({int(signal[4:]) for _, signal in ports if signal not in driven})
+
+
+def earliest(roles):
+    """The earliest way, found by trying all of them in their order, or None."""
+    for way in itertools.product(*[SERVING[role] for role in roles]):
+        if len(set(way)) == len(way):
+            return way
+    return None
+
+
+def broken(lab):
+    """The lowest of 60 to 65 that the printed counts break, or 0."""
+    if len(lab["clk"]) > 2:
+        return 60
+    if len(lab["(clk, ena)"]) > 2:
+        return 61
+    if len(lab["aclr"]) > 2:
+        return 62
+    if len(lab["sclr"]) > 1 or len(lab["sload"]) > 1:
+        return 63
+    if len(lab["nets in"]) > 38:
+        return 64
+    if earliest([need.split()[0] for need in lab["needs"]]) is None:
+        return 65
+    return 0
+
+
+def code(text):
+    n = int(text.split()[-1])
+    return 5 + 2 * n if text.startswith("/") else 4 + 2 * n
+
+
+def route_of(lab):
+    """The eight bytes that follow from the printed needs."""
+    needs = [need.split(" ", 1) for need in lab["needs"]]
+    order = [(ROLES.index(role), code(signal)) for role, signal in needs]
+    assert order == sorted(set(order)), needs
+    route = bytearray([255] * 8)
+    seen = {role: 0 for role in ROLES}
+    for (role, _), entry in zip(needs, earliest([role for role, _ in needs])):
+        route[BYTES[role][seen[role]]] = entry
+        seen[role] += 1
+    return bytes(route)
+
+
+def hold(what, ex, an, tally):
+    """Compare the two; says nothing where a rule up to 51 is broken but that words works."""
+    text = words(ex, an, labs=True)
+    numbers, route = judge(ex or b"", an or b"")
+    number, _, lab, _, _, start, _ = numbers
+    if 0 < number < 60:
+        tally["up to 51"] = tally.get("up to 51", 0) + 1
+        return
+    cells, labs = read_cells(text), read_labs(text)
+    for n, has in labs.items():
+        assert has["cells"] == [i for i, cell in cells.items() if cell[2] == n], (what, n)
+        for name, counted in brought(cells, n).items():
+            assert has[name] == counted, (what, n, name, has[name], counted)
+        assert has["nets in"] == [str(k) for k in nets_in(cells, n)], (what, n)
+    assert sum(len(has["cells"]) for has in labs.values()) == len(cells), what
+    first = next(((broken(has), n) for n, has in labs.items() if broken(has)), (0, NONE))
+    assert first == (number, lab), "%s: counted %s, judged %s" % (what, first, (number, lab))
+    if number:
+        assert start == 11 + 4 * labs[lab]["cells"][0], (what, start)
+    else:
+        whole = bytearray([255] * 8192)
+        for n, has in labs.items():
+            whole[8 * n:8 * n + 8] = route_of(has)
+        assert route == bytes(whole), (what, "another route")
+    tally[number] = tally.get(number, 0) + 1
+    for has in labs.values():
+        at_most = (len(has["clk"]) == 2, len(has["(clk, ena)"]) == 2, len(has["aclr"]) == 2,
+                   len(has["sclr"]) + len(has["sload"]) == 2, len(has["nets in"]) == 38,
+                   len(has["needs"]) == 6)
+        for rule, is_full in zip(range(60, 66), at_most):
+            if number == 0 and is_full:
+                key = "legal, full for %d" % rule
+                tally[key] = tally.get(key, 0) + 1
+
+
+# ---------------------------------------------------------------- random sheets
+
+class Nets:
+    """Nets handed out one by one."""
+
+    def __init__(self):
+        self.count = 0
+
+    def fresh(self):
+        self.count += 1
+        return self.count - 1
+
+
+def either(rng, n):
+    """A net in one of its polarities."""
+    return inv(n) if rng.random() < 0.3 else net(n)
+
+
+def control(rng, most, pool):
+    """Up to so many signals for a control port of one LAB."""
+    signals = [either(rng, rng.choice(pool)) for _ in range(rng.randint(0, most))]
+    if rng.random() < 0.25:
+        signals.append(rng.choice([GND, VCC]))
+    return signals + [OPEN] * rng.choice([0, 1, 4])
+
+
+def random_register(rng, ports, data, output):
+    pick = lambda name: rng.choice(ports[name]) if ports[name] else OPEN
+    any_data = lambda: rng.choice([OPEN, VCC, net(rng.choice(data)), net(rng.choice(data))])
+    if output is None:
+        return reg(d=any_data(), aclr=pick("aclr"), sdata=any_data())
+    clk = pick("clk")
+    if clk == OPEN:
+        return reg(d=any_data(), aclr=pick("aclr"), sdata=any_data(), q=net(output))
+    ena = pick("ena")
+    if "pairs" in ports:
+        clk, ena = pick("pairs")
+    sload = pick("sload")
+    sdata = any_data() if sload == OPEN else rng.choice([VCC, net(rng.choice(data))])
+    return reg(d=any_data(), clk=clk, ena=ena, aclr=pick("aclr"), sclr=pick("sclr"),
+               sload=sload, sdata=sdata, q=net(output))
+
+
+def fill_lab(rng, nets, pool, x, y, taken, cells):
+    """Cells with their places in one LAB, and a carry chain that may go on in the next one."""
+    inside = [nets.fresh() for _ in range(rng.randint(0, 4))]
+    data = [nets.fresh() for _ in range(rng.choice([1, 5, 20, 33, 35, 36, 37, 38, 40]))]
+    controls = rng.sample(pool, 6) + inside[:1]
+    tame = rng.random() < 0.6
+    ports = {name: control(rng, most if tame else most + 1, controls)
+             for name, most in (("clk", 2), ("ena", 1), ("aclr", 2), ("sclr", 1), ("sload", 1))}
+    if rng.random() < 0.3:
+        # Many needs: two pairs of nets, two aclr, often sclr and sload.
+        two = lambda: [either(rng, n) for n in rng.sample(controls, 2)]
+        ports.update(pairs=list(zip(two(), two())), aclr=two(),
+                     sclr=rng.choice([[], two()[:1]]), sload=rng.choice([[], two()[:1]]))
+    free = [le for le in range(16) if (2, x, y, le) not in taken]
+    for le in rng.sample(free, rng.randint(0, min(len(free), rng.choice([2, 4, 16])))):
+        output = None if rng.random() < 0.15 else inside.pop() if inside else nets.fresh()
+        taken.add((2, x, y, le))
+        cells.append((random_register(rng, ports, data, output), (x, y, le)))
+    if rng.random() < 0.4:
+        carry_chain(rng, nets, data, x, y, taken, cells)
+    free = [le for le in range(16) if (1, x, y, le) not in taken]
+    deal = list(data)
+    rng.shuffle(deal)
+    for le in rng.sample(free, rng.randint(0, len(free))):
+        some = [deal.pop() if deal else rng.choice(data + inside + pool[:2]) for _ in range(4)]
+        signals = [either(rng, n) if rng.random() < 0.9 else rng.choice([OPEN, GND, VCC])
+                   for n in some]
+        output = OPEN if rng.random() < 0.1 else net(inside.pop() if inside else nets.fresh())
+        taken.add((1, x, y, le))
+        cells.append((comb(*signals, o=output, flag=rng.randint(0, 1)), (x, y, le)))
+
+
+def carry_chain(rng, nets, data, x, y, taken, cells):
+    """A chain from some LE on, as far as it finds its LEs free."""
+    le, places = rng.randint(0, 15), []
+    for _ in range(rng.randint(2, 5)):
+        if (1, x, y, le) in taken or y < 0:
+            break
+        places.append((x, y, le))
+        le, y = (le + 1, y) if le < 15 else (0, y - 1)
+    if len(places) < 2:
+        return
+    carry = OPEN
+    for k, place in enumerate(places):
+        out = net(nets.fresh()) if k + 1 < len(places) else OPEN
+        cells.append((comb(a=either(rng, rng.choice(data)), b=net(rng.choice(data)), cin=carry,
+                           o=net(nets.fresh()), cout=out, flag=1), place))
+        taken.add((1,) + place)
+        carry = out
+
+
+def random_pair(rng):
+    nets = Nets()
+    pool = [nets.fresh() for _ in range(8)]
+    taken, cells = set(), []
+    for lab in rng.sample(range(1024), rng.randint(1, 3)):
+        fill_lab(rng, nets, pool, lab % 32, lab // 32, taken, cells)
+    rng.shuffle(cells)
+    return (exercise(nets.count, *[cell for cell, _ in cells]),
+            answer(rng.randint(1, 2 ** 32 - 1), *[place for _, place in cells]))
+
+
+def damaged(rng, sheet):
+    """One to three bytes changed, or the end cut off."""
+    sheet = bytearray(sheet)
+    if rng.random() < 0.1:
+        return bytes(sheet[:rng.randint(0, len(sheet))])
+    for _ in range(rng.randint(1, 3)):
+        at = rng.randrange(len(sheet))
+        sheet[at] = rng.choice([0, 1, 2, 4, 6, rng.randrange(256)])
+    return bytes(sheet)
+
+
+def sample_pairs():
+    """All samples: (name, exercise, answer), None for a missing sheet."""
+    root = os.path.join(TOP, "samples")
+
+    def sheet(*path):
+        if not os.path.isfile(os.path.join(root, *path)):
+            return None
+        with open(os.path.join(root, *path), "rb") as file:
+            return file.read()
+
+    for name in sorted(os.listdir(root)):
+        if not os.path.isdir(os.path.join(root, name)):
+            continue
+        answers = [file for file in os.listdir(os.path.join(root, name))
+                   if file.endswith(".lxa")] or ["answer.lxa"]
+        for file in sorted(answers):
+            yield name + "/" + file, sheet(name, "exercise.lxe"), sheet(name, file)
+
+
+def main():
+    rng = random.Random(SEED)
+    on_samples, on_random = {}, {}
+    for name, ex, an in sample_pairs():
+        hold(name, ex, an, on_samples)
+    for k in range(PAIRS):
+        ex, an = random_pair(rng)
+        hold("pair %d" % k, ex, an, on_random)
+        assert "up to 51" not in on_random, "pair %d breaks a rule up to 51: %s" % (k, judge(ex, an)[0])
+    damaged_pairs = {}
+    for k in range(PAIRS // 3):
+        ex, an = random_pair(rng)
+        if rng.random() < 0.5:
+            hold("damaged exercise %d" % k, damaged(rng, ex), an, damaged_pairs)
+        else:
+            hold("damaged answer %d" % k, ex, damaged(rng, an), damaged_pairs)
+    for number in [0] + list(range(60, 66)):
+        assert on_samples.get(number), "no sample with %d" % number
+        assert on_random.get(number, 0) >= PAIRS // 100, "few random sheets with %d: %s" % (number, on_random)
+        if number:
+            assert on_random.get("legal, full for %d" % number), "no legal LAB at the limit of %d" % number
+    count = lambda tally: sum(n for key, n in tally.items() if key == 0 or key in range(60, 66))
+    print("words: --labs counts as the judge does, on %d samples, %d random pairs and %d damaged ones"
+          % (count(on_samples), count(on_random), count(damaged_pairs)))
+    if os.environ.get("WORDS_TALLY"):
+        print(on_samples, on_random, damaged_pairs, sep="\n")
+
+
+main()
