@@ -1,0 +1,196 @@
+"""Compares what docs/SHEETS.md, docs/SAMPLES.md and docs/VERDICTS.md show with the files, the tool and the judge: pages.py TOP."""
+
+import os
+import re
+import shutil
+import subprocess
+import sys
+import tempfile
+
+TOP = sys.argv[1]
+sys.path.insert(0, os.path.join(TOP, "tools"))
+import sheets  # noqa: E402
+
+EXAMPLE = os.path.join(TOP, "target", "c", "example")
+PROGRAM = os.path.join(TOP, "target", "bin", "judge_main")
+
+
+def page(name):
+    with open(os.path.join(TOP, "docs", name)) as file:
+        return file.read()
+
+
+def stored(*path):
+    with open(os.path.join(TOP, "samples", *path), "rb") as file:
+        return file.read()
+
+
+def rows(text):
+    """The rows of the first table, its cells without blanks."""
+    lines = text[text.index("\n|"):].strip().split("\n\n")[0].splitlines()
+    return [[cell.strip() for cell in line.strip("|").split("|")] for line in lines[2:]]
+
+
+def part(text, begin, end):
+    return text[text.index(begin):].split(end)[0]
+
+
+def taken_apart(text, file, fields):
+    """Each byte of a sheet stands on the page once, in order, with its meaning."""
+    section = part(text, "### `samples/listing/%s`" % file, "\n##")
+    data, at, names = stored("listing", file), 0, []
+    assert "%d bytes" % len(data) in section.splitlines()[0], section.splitlines()[0]
+    for offset, shown, meaning in rows(section):
+        assert int(offset) == at, (file, offset, at)
+        field = bytes.fromhex(shown.strip("`"))
+        assert data[at:at + len(field)] == field, (file, offset)
+        name, value = meaning.split(": ", 1)
+        names.append((name, len(field)))
+        assert value == fields(name, field), (file, meaning, fields(name, field))
+        at += len(field)
+    assert at == len(data), (file, at)
+    return names
+
+
+def exercise_field(name, field):
+    value = int.from_bytes(field, "little")
+    if name == "mark":
+        return field.decode()
+    if name.endswith(", kind"):
+        return "%d, %s" % (value, {1: "combinational", 2: "register"}[value])
+    if name in ("version", "nets", "cells") or name.endswith("flag") or ", zero" in name:
+        return str(value)
+    return "unconnected" if value == 0 else sheets.signal_text(value)
+
+
+def answer_field(name, field):
+    return field.decode() if name == "mark" else str(int.from_bytes(field, "little"))
+
+
+def sheets_page():
+    text = page("SHEETS.md")
+    ports = lambda i, names: [("cell %d, %s" % (i, name), 2) for name in names]
+    head = lambda i: [("cell %d, kind" % i, 1), ("cell %d, flag" % i, 1)]
+    assert taken_apart(text, "exercise.lxe", exercise_field) == (
+        [("mark", 3), ("version", 2), ("nets", 2), ("cells", 2)]
+        + head(0) + ports(0, sheets.REG_PORTS) + head(1) + ports(1, sheets.COMB_PORTS))
+    assert taken_apart(text, "answer.lxa", answer_field) == (
+        [("mark", 3), ("version", 2), ("apprentice", 4), ("cells", 2)]
+        + [("cell %d, %s" % (i, name), 1) for i in range(2) for name in ("x", "y", "LE", "zero")])
+
+    # The order of the ports is the tool's, which is held against the judge.
+    record = rows(part(text, "A record, with offsets", "\n\ncombout"))
+    zero = lambda name: "0" if name.startswith("zero") else name
+    assert record == ([["0", "1", "kind: 1", "kind: 2"], ["1", "1", "flag: 0 or 1", "flag: 0"]]
+                      + [[str(2 + 2 * i), "2", zero(c), zero(r)]
+                         for i, (c, r) in enumerate(zip(sheets.COMB_PORTS, sheets.REG_PORTS))]), record
+    codes = rows(part(text, "## Signals", "\nNets are"))
+    assert [row[0] for row in codes] == ["0", "1", "2", "3", "4 + 2n", "5 + 2n"]
+    assert (sheets.OPEN, sheets.GND, sheets.VCC, sheets.net(9), sheets.inv(9)) == (0, 1, 2, 22, 23)
+    heads = [rows(part(text, "## The %s sheet" % which, "\n\nThe sheet has")) for which in ("exercise", "answer")]
+    assert [[row[:2] for row in table] for table in heads] == [
+        [["0", "3"], ["3", "2"], ["5", "2"], ["7", "2"], ["9 + 24i", "24"]],
+        [["0", "3"], ["3", "2"], ["5", "4"], ["9", "2"], ["11 + 4i", "4"]]]
+    listing = stored("listing", "listing.txt").decode()
+    assert "".join("    %s\n" % line for line in listing.splitlines()) in text
+
+
+def judged(folder):
+    """The listing of the sheets in a folder, and what the C example says."""
+    listing = subprocess.run([PROGRAM], cwd=folder, capture_output=True, text=True, check=True).stdout
+    told = subprocess.run([EXAMPLE, "exercise.lxe", "answer.lxa"], cwd=folder, capture_output=True, text=True, check=True).stdout
+    return listing, told
+
+
+def limits_judged():
+    """The limits of both tables, by the judge: the last value that is taken, the first that isn't."""
+    cell = sheets.comb()
+    head = sheets.raw_exercise(4, cell)
+    good = sheets.answer(7, (2, 1, 0))
+    cases = [
+        (0, head, good), (10, head[:8], good), (11, sheets.patch(head, 2, 0), good), (12, sheets.patch(head, 3, 2), good),
+        (0, sheets.raw_exercise(1024, sheets.comb(a=sheets.inv(1023))), good), (13, sheets.raw_exercise(1025, cell), good),
+        (0, sheets.raw_exercise(0, cell), good), (13, sheets.raw_exercise(4, *[cell] * 513), good), (14, head + b"\0", good),
+        (15, sheets.raw_exercise(4, sheets.raw_record(3, 0, [])), good), (0, sheets.raw_exercise(4, sheets.comb(flag=1)), good),
+        (15, sheets.raw_exercise(4, sheets.raw_record(1, 2, [])), good), (15, sheets.raw_exercise(4, sheets.raw_record(2, 1, [])), good),
+        (0, sheets.raw_exercise(4, sheets.comb(a=sheets.inv(3))), good), (15, sheets.raw_exercise(4, sheets.comb(a=sheets.net(4))), good),
+        (15, sheets.raw_exercise(4, sheets.raw_record(1, 0, [3])), good),
+        (20, head, good[:10]), (21, head, sheets.patch(good, 2, 0)), (22, head, sheets.patch(good, 3, 2)),
+        (23, head, sheets.raw_answer(0, (2, 1, 0))), (24, head, sheets.answer(7)), (25, head, good + b"\0"),
+        (0, head, sheets.answer(2 ** 32 - 1, (31, 31, 15))), (26, head, sheets.raw_answer(7, (32, 1, 0))),
+        (26, head, sheets.raw_answer(7, (2, 32, 0))), (26, head, sheets.raw_answer(7, (2, 1, 16))), (26, head, sheets.patch(good, 14, 1)),
+    ]
+    # Outputs: an inverted net and a constant, at each of the three; and each of the zeros.
+    for kind, names in ((1, sheets.COMB_PORTS), (2, sheets.REG_PORTS)):
+        for i, name in enumerate(names):
+            for code in (1, 5):
+                signals = [0] * 11
+                signals[i] = code
+                if name in sheets.OUTPUTS or name.startswith("zero"):
+                    cases.append((15, sheets.raw_exercise(4, sheets.raw_record(kind, 0, signals)), good))
+    with tempfile.TemporaryDirectory() as folder:
+        for number, ex, an in cases:
+            sheets.save(folder, ex, an)
+            listing, told = judged(folder)
+            assert listing.split()[1] == str(number) and told.split()[1] == str(number), (number, ex, an, listing)
+
+
+def commands(name):
+    """Each command behind a dollar sign prints what stands below it."""
+    ran, lines = 0, page(name).splitlines()
+    for i, line in enumerate(lines):
+        if not line.startswith("    $ "):
+            continue
+        shown = []
+        for below in lines[i + 1:]:
+            if not below.startswith("    "):
+                break
+            shown.append(below[4:])
+        done = subprocess.run(line[6:].replace("./example ", EXAMPLE + " "), shell=True, cwd=TOP, text=True,
+                              capture_output=True, env=dict(os.environ, PYTHONDONTWRITEBYTECODE="1"))
+        assert done.returncode == 0 and not done.stderr, (line, done)
+        assert done.stdout.splitlines() == shown, "%s: %s prints\n%s" % (name, line, done.stdout)
+        ran += 1
+    return ran
+
+
+def counter():
+    """The counter of docs/SAMPLES.md is made and judged as the page says, and with a gap in its chain gets 51."""
+    text = page("SAMPLES.md")
+    program = part(text, "```python\n", "\n```")[len("```python\n"):]
+    listing = text.split("\n```\n", 2)[2].split("\n```")[0].lstrip("`\n")
+    assert listing.startswith("verdict 0 "), listing
+    for source, expected in ((program, listing + "\n"), (program.replace("(5, 3, 1), (5, 3, 0)", "(5, 3, 2), (5, 3, 0)"), None)):
+        with tempfile.TemporaryDirectory() as folder:
+            shutil.copytree(os.path.join(TOP, "tools"), os.path.join(folder, "tools"))
+            with open(os.path.join(folder, "counter.py"), "w") as file:
+                file.write(source)
+            subprocess.run([sys.executable, "-B", "counter.py"], cwd=folder, check=True)
+            own = os.path.join(folder, "samples", "counter")
+            assert sorted(os.listdir(own)) == ["answer.lxa", "exercise.lxe", "words.txt"]
+            printed, told = judged(own)
+            if expected is None:
+                assert source != program and printed == "verdict 51 cell 1 lab - apprentice 1\n", printed
+            else:
+                assert printed == expected and told.startswith("number 0\n"), printed
+
+
+def links():
+    """Every page that is linked to is there."""
+    for name in ("SHEETS.md", "SAMPLES.md", "VERDICTS.md", "TABLET.md"):
+        for target in re.findall(r"\]\(([^)#]+)", page(name)):
+            assert os.path.exists(os.path.join(TOP, "docs", target)), (name, target)
+
+
+def main():
+    sheets_page()
+    limits_judged()
+    ran = commands("VERDICTS.md") + commands("SAMPLES.md")
+    assert ran >= 8, ran
+    assert page("SAMPLES.md").endswith("The number in brackets is the verdict.\n\n" + sheets.list_samples())
+    counter()
+    links()
+    print("sheets: the pages show the bytes, the limits and what %d commands print" % ran)
+
+
+main()
