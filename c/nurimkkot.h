@@ -1,11 +1,12 @@
 /* Nurimkkot: the judge of FPGA placement exercises, the check of one LAB and the readers of both sheets, for C.
  *
- * Link with libc_api.a, which `rt staticlib c_api` writes to target/staticlib. The archive is for x86-64 Linux and calls nothing
- * but memory functions of the C library (memcpy, memset and the like).
+ * Link with libc_api.a, which `rt staticlib c_api` writes to target/staticlib. The archive is for x86-64 Linux, position independent,
+ * and calls nothing but memory functions of the C library (memcpy, memset and the like). docs/SHEETS.md has the layout of both sheets.
  *
  * Every function asks this of its pointers:
  *   - a pointer is valid for the length or count that goes with it, or for the array that is declared here;
- *   - no pointer is NULL, also where the length or count is 0: any other that is aligned will do there;
+ *   - no pointer is NULL, but one whose length or count is 0: an empty sheet, route buffer or list may be NULL. That is tested
+ *     (tests/c/null.c), not proved;
  *   - a pointer is aligned for its type. The records in a sheet need not be: copy them, and do not cast `exercise + 9` to
  *     struct nurimkkot_cell *;
  *   - what the call writes (route, numbers, *at, cell, place) overlaps nothing else that is passed to the same call. What it only

@@ -1,0 +1,120 @@
+/* NULL with length or count 0, as an empty container hands it over: null EXERCISE ANSWER .. Every answer is the one for an empty run that
+ * has an address, nothing is written but what the header says, and NULL does not get as far as memcpy or memset. To be linked
+ * with --wrap for these two. A read or write at NULL ends the test. */
+#include "check.h"
+#include "../../c/sheet_files.h"
+
+void *__real_memcpy(void *to, const void *from, size_t length);
+void *__real_memset(void *to, int byte, size_t length);
+void *__wrap_memcpy(void *to, const void *from, size_t length);
+void *__wrap_memset(void *to, int byte, size_t length);
+
+/* Whether the library is being called, and how often it called the two functions. */
+static int inside, calls;
+
+void *__wrap_memcpy(void *to, const void *from, size_t length)
+{
+    if (inside) {
+        calls++;
+        expect(to != NULL && from != NULL, "memcpy with NULL", (long)length);
+    }
+    return __real_memcpy(to, from, length);
+}
+
+void *__wrap_memset(void *to, int byte, size_t length)
+{
+    if (inside) {
+        calls++;
+        expect(to != NULL, "memset with NULL", (long)length);
+    }
+    return __real_memset(to, byte, length);
+}
+
+/* An empty run that has an address. */
+static uint16_t somewhere[8];
+
+static const uint8_t *at_an_address(const uint8_t *sheet)
+{
+    return sheet ? sheet : (const uint8_t *)somewhere;
+}
+
+/* The judge with sheets and route of which some are NULL, beside the same call with an address for each. */
+static uint64_t judge(const uint8_t *exercise, size_t exercise_length, const uint8_t *answer, size_t answer_length, int with_route)
+{
+    static uint8_t room[NURIMKKOT_ROUTE_SIZE], same[NURIMKKOT_ROUTE_SIZE];
+    uint64_t numbers[NURIMKKOT_NUMBERS + 2], others[NURIMKKOT_NUMBERS];
+    size_t route_length = with_route ? sizeof room : 0;
+    memset(numbers, 0x5a, sizeof numbers);
+    memset(room, 0xa5, sizeof room);
+    memset(same, 0xa5, sizeof same);
+    inside = 1;
+    nurimkkot_judge(exercise, exercise_length, answer, answer_length, with_route ? room : NULL, route_length, numbers + 1);
+    inside = 0;
+    nurimkkot_judge(at_an_address(exercise), exercise_length, at_an_address(answer), answer_length, same, route_length, others);
+    expect(memcmp(numbers + 1, others, sizeof others) == 0, "the same numbers as with an address", (long)numbers[1]);
+    expect(memcmp(room, same, sizeof same) == 0, "the same route as with an address", (long)numbers[1]);
+    expect(numbers[0] == 0x5a5a5a5a5a5a5a5a && numbers[NURIMKKOT_NUMBERS + 1] == 0x5a5a5a5a5a5a5a5a, "guards around the numbers", 0);
+    return numbers[1 + NURIMKKOT_NUMBER];
+}
+
+/* The readers and the check of one LAB. */
+static void forms(void)
+{
+    static const uint16_t numbers[] = {0, 1, 511, 512, 65535};
+    uint16_t fields[NURIMKKOT_CELL_FIELDS], at;
+    uint8_t route[8], said;
+    size_t i, j;
+    inside = 1;
+    expect(nurimkkot_open_exercise(NULL, 0) == 10, "opening no exercise", 10);
+    expect(nurimkkot_open_answer(NULL, 0) == 20, "opening no answer", 20);
+    for (i = 0; i < sizeof numbers / sizeof numbers[0]; i++) {
+        for (j = 0; j < NURIMKKOT_CELL_FIELDS; j++)
+            fields[j] = 0x5a5a;
+        at = numbers[i];
+        said = nurimkkot_next_cell(NULL, 0, &at, fields);
+        expect(said == NURIMKKOT_END && at == numbers[i], "the next cell of no exercise", at);
+        for (j = 0; j < NURIMKKOT_CELL_FIELDS; j++)
+            expect(fields[j] == 0, "fields of no cell", (long)j);
+        for (j = 0; j < NURIMKKOT_PLACE_FIELDS; j++)
+            fields[j] = 0x5a5a;
+        said = nurimkkot_next_place(NULL, 0, &at, fields);
+        expect(said == NURIMKKOT_END && at == numbers[i], "the next place of no answer", at);
+        for (j = 0; j < NURIMKKOT_PLACE_FIELDS; j++)
+            expect(fields[j] == 0, "fields of no place", (long)j);
+    }
+    for (j = 0; j < 8; j++)
+        route[j] = 0xa5;
+    said = nurimkkot_check_lab(NULL, 0, route);
+    inside = 0;
+    expect(said == 0, "the number of no list", said);
+    for (j = 0; j < 8; j++)
+        expect(route[j] == NURIMKKOT_NO_ENTRY, "the route bytes of no list", (long)j);
+}
+
+int main(int argc, char **argv)
+{
+    static uint8_t exercise[EXERCISE_ROOM], answer[ANSWER_ROOM];
+    int pair, pairs = 0, empty_answers = 0;
+    uint64_t number;
+    expect(judge(NULL, 0, NULL, 0, 0) == 1, "nothing at all", 1);
+    expect(judge(NULL, 0, NULL, 0, 1) == 10, "no sheets", 10);
+    for (pair = 1; pair + 1 < argc; pair += 2) {
+        size_t exercise_length = read_file(argv[pair], exercise, sizeof exercise);
+        size_t answer_length = read_file(argv[pair + 1], answer, sizeof answer);
+        expect(judge(exercise, exercise_length, answer, answer_length, 0) == 1, argv[pair + 1], 1);
+        expect(judge(NULL, 0, answer, answer_length, 0) == 1, argv[pair + 1], 1);
+        expect(judge(exercise, exercise_length, NULL, 0, 0) == 1, argv[pair + 1], 1);
+        expect(judge(NULL, 0, answer, answer_length, 1) == 10, argv[pair + 1], 10);
+        number = judge(exercise, exercise_length, NULL, 0, 1);
+        expect(number >= 10 && number <= 20, argv[pair], (long)number);
+        empty_answers += number == 20;
+        judge(exercise, exercise_length, answer, answer_length, 1);
+        pairs++;
+    }
+    expect(pairs > 0 && empty_answers > 0 && empty_answers < pairs, "sheets of both sorts", pairs);
+    forms();
+    expect(calls > 0, "memcpy and memset were watched", calls);
+    if (failures == 0)
+        printf("C: NULL with length 0 is an empty sheet, route or list, beside %d pairs of sheets\n", pairs);
+    return failures != 0;
+}
