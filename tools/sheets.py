@@ -38,7 +38,7 @@ F = 255             # a route byte without a need
 NONE = 65535
 
 
-def whole(what, value, low, high):
+def checked(what, value, low, high):
     """The value, which has to be a plain whole number from low to high."""
     if isinstance(value, Signal):
         raise ValueError("%s is a number, not the signal %s" % (what, signal_text(value)))
@@ -51,12 +51,12 @@ def whole(what, value, low, high):
 
 def net(n):
     """Net n, by its number."""
-    return Signal(4 + 2 * whole("a net", n, 0, MAX_NETS - 1))
+    return Signal(4 + 2 * checked("a net", n, 0, MAX_NETS - 1))
 
 
 def inv(n):
     """Net n inverted, by its number: inv(3), not inv(net(3))."""
-    return Signal(5 + 2 * whole("a net", n, 0, MAX_NETS - 1))
+    return Signal(5 + 2 * checked("a net", n, 0, MAX_NETS - 1))
 
 
 COMB_PORTS = ("dataa", "datab", "datac", "datad", "cin", "combout", "cout",
@@ -68,7 +68,7 @@ OUTPUTS = ("combout", "cout", "regout")
 
 
 def signal_text(code):
-    """A connected signal in words."""
+    """A signal in words."""
     if code < 4:
         return ("open", "GND", "VCC", "code 3")[code]
     return ("/net %d" if code % 2 else "net %d") % ((code - 4) // 2)
@@ -79,15 +79,15 @@ def raw_record(kind, flag, codes):
     codes = list(codes)
     if len(codes) > 11:
         raise ValueError("a record has 11 signals, not %d" % len(codes))
-    codes = [int(c) if isinstance(c, Signal) else whole("a code", c, 0, 65535) for c in codes]
-    return struct.pack("<BB11H", whole("a kind", kind, 0, 255), whole("a flag", flag, 0, 255),
+    codes = [checked("a code", int(c) if isinstance(c, Signal) else c, 0, 65535) for c in codes]
+    return struct.pack("<BB11H", checked("a kind", kind, 0, 255), checked("a flag", flag, 0, 255),
                        *(codes + [0] * (11 - len(codes))))
 
 
 def record(kind, flag, signals):
     """A cell record that keeps the layout: kind, flag, its signals in the order of the ports."""
-    ports = PORTS[whole("a kind", kind, 1, 2)]
-    whole("a register's flag" if kind == 2 else "a flag", flag, 0, 2 - kind)
+    ports = PORTS[checked("a kind", kind, 1, 2)]
+    checked("a register's flag" if kind == 2 else "a flag", flag, 0, 2 - kind)
     signals = list(signals)
     for name, signal in zip(ports, signals):
         if not isinstance(signal, Signal):
@@ -117,15 +117,15 @@ def raw_exercise(nets, *cells):
     for i, cell in enumerate(cells):
         if not isinstance(cell, bytes) or len(cell) != 24:
             raise ValueError("cell %d is no record of 24 bytes" % i)
-    return (b"LXE" + struct.pack("<HHH", 1, whole("a net count", nets, 0, 65535),
-                                 whole("a cell count", len(cells), 0, 65535))
+    return (b"LXE" + struct.pack("<HHH", 1, checked("a net count", nets, 0, 65535),
+                                 checked("a cell count", len(cells), 0, 65535))
             + b"".join(cells))
 
 
 def exercise(nets, *cells):
     """An exercise sheet; a cell is what comb() or reg() gives."""
-    whole("a net count", nets, 0, MAX_NETS)
-    whole("a cell count", len(cells), 0, MAX_CELLS)
+    checked("a net count", nets, 0, MAX_NETS)
+    checked("a cell count", len(cells), 0, MAX_CELLS)
     sheet = raw_exercise(nets, *cells)
     for i, cell in enumerate(cells):
         bad = [w for w in cell_words(cell, nets).split(", ") if "(bad: " in w]
@@ -136,30 +136,30 @@ def exercise(nets, *cells):
 
 def raw_answer(apprentice, *places):
     """An answer sheet of any apprentice and places; a place is (x, y, LE)."""
-    head = b"LXA" + struct.pack("<HIH", 1, whole("an apprentice", apprentice, 0, 0xffffffff),
-                                whole("a cell count", len(places), 0, 65535))
+    head = b"LXA" + struct.pack("<HIH", 1, checked("an apprentice", apprentice, 0, 0xffffffff),
+                                checked("a cell count", len(places), 0, 65535))
     for i, place in enumerate(places):
         if not isinstance(place, (tuple, list)) or len(place) != 3:
             raise ValueError("place %d is (x, y, LE), not %r" % (i, place))
         for name, value in zip(("x", "y", "LE"), place):
-            whole("%s of place %d" % (name, i), value, 0, 255)
+            checked("%s of place %d" % (name, i), value, 0, 255)
     return head + b"".join(bytes([x, y, le, 0]) for x, y, le in places)
 
 
 def answer(apprentice, *places):
     """An answer sheet; a place is (x, y, LE)."""
-    whole("an apprentice", apprentice, 1, 0xffffffff)
-    whole("a cell count", len(places), 0, MAX_CELLS)
+    checked("an apprentice", apprentice, 1, 0xffffffff)
+    checked("a cell count", len(places), 0, MAX_CELLS)
     sheet = raw_answer(apprentice, *places)
     for i, place in enumerate(places):
         for name, value, top in zip(("x", "y", "LE"), place, (31, 31, 15)):
-            whole("%s of place %d" % (name, i), value, 0, top)
+            checked("%s of place %d" % (name, i), value, 0, top)
     return sheet
 
 
 def patch(sheet, start, *values):
     """The sheet with the bytes from start on replaced."""
-    whole("the first byte of a patch", start, 0, len(sheet) - len(values))
+    checked("the first byte of a patch", start, 0, len(sheet) - len(values))
     return sheet[:start] + bytes(values) + sheet[start + len(values):]
 
 

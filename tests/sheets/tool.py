@@ -80,6 +80,7 @@ def numbers_refused():
 
     # The raw forms ask only that a number fits.
     refused("a code is 0 to 65535, not 65536", lambda: raw_record(1, 0, [65536]))
+    refused("a code is 0 to 65535, not 65536", lambda: comb(a=Signal(65536)))
     refused("a kind is 0 to 255, not 256", lambda: raw_record(256, 0, []))
     refused("a flag is 0 to 255, not -1", lambda: raw_record(1, -1, []))
     refused("a net count is 0 to 65535, not 65536", lambda: raw_exercise(65536))
