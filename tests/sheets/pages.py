@@ -146,7 +146,7 @@ def commands(name):
             if not below.startswith("    "):
                 break
             shown.append(below[4:])
-        done = subprocess.run(line[6:].replace("./example ", EXAMPLE + " "), shell=True, cwd=TOP, text=True,
+        done = subprocess.run(line[6:].replace("./example ", "target/c/example "), shell=True, cwd=TOP, text=True,
                               capture_output=True, env=dict(os.environ, PYTHONDONTWRITEBYTECODE="1"))
         assert done.returncode == 0 and not done.stderr, (line, done)
         assert done.stdout.splitlines() == shown, "%s: %s prints\n%s" % (name, line, done.stdout)
