@@ -4,7 +4,7 @@
 set -u
 cd "$(dirname "$0")" || exit 2
 
-for tool in rt rustc cc python3; do
+for tool in rt rustc cc python3 nm flock; do
   command -v "$tool" > /dev/null || { echo "test.sh: $tool is not on the PATH" >&2; exit 2; }
 done
 
