@@ -2,7 +2,7 @@
 -- each cell or LAB in turn. Assumes nothing.
 use Prim.Native.Nat.{ℕ, zero, suc, _+_}
 use mathlib.Core.Path.{_≡_, refl, _∙_}
-use mathlib.Core.Bool.{Bool, cond, not}
+use mathlib.Core.Bool.{Bool, false, cond, not}
 use mathlib.Core.List.{List, [], _∷_, _++_, map}
 use native.Mathlib.Omega.{arith}
 use lib.Dec.{eqb, ltb}
@@ -66,6 +66,17 @@ pub legal-hold : (ks : List Check) → Numbered ks → firstBroken ks .number �
 unfolding AllHold Every
 legal-hold [] n e = tt
 legal-hold (k ∷ ks) n e = by-test (k .broken) (λ b. absurd (n .0 (rw b at e))) (λ b. (b, legal-hold ks (n .1) (rw b at e)))
+
+-- whether the first check of number n is broken
+abbrev pub brokenOf : ℕ → List Check → Bool
+brokenOf n [] = false
+brokenOf n (k ∷ ks) = let later = brokenOf n ks in cond (eqb n (k .finding .number)) (k .broken) later
+
+-- a held check, looked up by its number
+pub held : (n : ℕ) (ks : List Check) → AllHold ks → brokenOf n ks ≡ false
+unfolding AllHold
+held n [] h = refl
+held n (k ∷ ks) h = by-test (eqb n (k .finding .number)) (λ q. rw (q, h .0)) (λ q. rw q (held n ks (h .1)))
 
 -- ---- a whole sheet
 pub sheet-finds : (ks : List sheet.Check) → firstBroken (ofSheet ks) ≡ finding (sheet.firstNumber ks) NONE NONE

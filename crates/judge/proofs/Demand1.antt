@@ -1,21 +1,42 @@
--- Demand 1 holds: the verdict has a number of the table, a refusal leaves the route buffer as it was, and the apprentice is that of the
--- answer sheet. Assumes nothing.
+-- Demand 1 holds: the verdict has a number of the table and names its culprit, a refusal leaves the route buffer as it was, and the apprentice
+-- is that of the answer sheet. Assumes nothing.
+use Prim.Native.Nat.{ℕ}
 use mathlib.Core.Path.{_≡_, refl}
-use mathlib.Core.Bool.{true}
+use mathlib.Core.Bool.{Bool, true, false, not}
+use mathlib.Core.List.{List, [], _∷_}
 use lib.ListN.{length}
-use borrow.Author.Tests.{ne-eqb}
-use Rattle.sheet.specs.Lists.{elemb}
+use borrow.Author.Tests.{ne-eqb, not-false}
+use Rattle.sheet.specs.Lists.{anyb, elemb}
+use Rattle.sheet.proofs.Laws.{or-parts}
 use Rattle.route.specs.Table.{Table}
-use Rattle.judge.specs.Judge.{checks, judged, routed, verdictOf}
+use Rattle.judge.specs.Numbers.{refusalNumbers}
+use Rattle.judge.specs.Judge.{apprenticeOf, checks, judged, routed, verdictOf}
 use Rattle.judge.specs.Demands.{Demand1, numbers}
-use Rattle.judge.proofs.Broken.{found}
-use Rattle.judge.proofs.Numbers.{To65, every-weaker, all-known}
+use Rattle.judge.proofs.Broken.{Every, found}
+use Rattle.judge.proofs.Numbers.{In, of-list, every-weaker, all-known}
+use Rattle.judge.proofs.NamesCulprit.{names-culprit}
+
+-- a test that no number of a list fails
+all-pass : (p : ℕ → Bool) (ns : List ℕ) → anyb (λ n. not (p n)) ns ≡ false → Every (λ n. p n ≡ true) ns
+unfolding Every
+all-pass p [] h = tt
+all-pass p (n ∷ ns) h = let g = or-parts (not (p n)) _ h in (not-false (p n) (g .0), all-pass p ns (g .1))
+
+-- the numbers of the checks are in the table
+in-table : (n : ℕ) → elemb n refusalNumbers ≡ true → elemb n numbers ≡ true
+in-table n m = of-list (λ n. elemb n numbers ≡ true) refusalNumbers (all-pass (λ n. elemb n numbers) refusalNumbers refl) n m
+
+one-number : (t : Table) (e a : List ℕ) (r : ℕ) → elemb (judged t e a r .number) numbers ≡ true
+unfolding judged verdictOf
+one-number t e a r =
+    found (λ f. elemb (f .number) numbers ≡ true) refl (checks t e a r)
+    (every-weaker (In refusalNumbers) _ (λ k h. in-table (k .finding .number) h) (checks t e a r) (all-known t e a r))
 
 pub demand1 : (t : Table) → Demand1 t
-unfolding judged verdictOf routed
+unfolding judged verdictOf routed apprenticeOf
 demand1 t = record {
-  one-number = λ e a r. found (λ f. elemb (f .number) numbers ≡ true) refl (checks t e a r)
-      (every-weaker To65 _ (λ k h. h .listed) (checks t e a r) (all-known t e a r));
+  one-number = one-number t;
+  names-culprit = names-culprit t;
   untouched = λ e a before h. rw (ne-eqb (judged t e a (length before) .number) 0 h);
   apprentice-only = λ e a r. refl;
 }

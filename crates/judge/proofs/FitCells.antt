@@ -1,9 +1,9 @@
 -- A cell that keeps 30 to 44, of an exercise with at most 1,024 nets, is fit for a LAB: its signals are small, and an enable has a clock.
 -- Where every cell is such a cell, the cells of each LAB are fit. Assumes nothing.
 use Prim.Native.Nat.{ℕ, zero, suc, _+_, _≤_, _<_}
-use mathlib.Core.Path.{_≡_, refl, sym}
-use mathlib.Core.Bool.{Bool, true, false, cond, true≢false}
-use mathlib.Core.List.{List, [], _∷_, _++_, map}
+use mathlib.Core.Path.{_≡_, refl}
+use mathlib.Core.Bool.{Bool, true, false, cond}
+use mathlib.Core.List.{List, [], _∷_, map}
 use native.Mathlib.Omega.{arith}
 use lib.Dec.{eqb}
 use borrow.Author.Tests.{eqb-true, leb-false, not-false}
@@ -22,6 +22,7 @@ use Rattle.netlist.specs.Cells.{cell, allInputs, clockWithoutOutput, clearWitho
 use Rattle.placing.specs.Places.{labAt}
 use Rattle.labs.specs.Members.{members}
 use Rattle.judge.specs.Judge.{labCells}
+use Rattle.judge.proofs.Numbers.{elem-more}
 use Rattle.netlist.proofs.Decoded.{inputs-good, outputs-good, good-net, good-output}
 
 -- ---- signals
@@ -32,10 +33,6 @@ module _ (nets s : ℕ) (few : nets ≤ 1024) where
   pub small-output : isBadOutput nets s ≡ false → s < 2052
   small-output h =
       by-test (eqb s 0) (λ q. omega (arith, eqb-true s 0 q)) (λ q. omega (arith, good-output nets s h (rw q) .2))
-
-elem-more : (s : ℕ) (xs ys : List ℕ) → elemb s xs ≡ true → elemb s (xs ++ ys) ≡ true
-elem-more s [] ys m = absurd (true≢false (sym m))
-elem-more s (x ∷ xs) ys m = by-test (eqb s x) (λ e. rw e) (λ e. rw e (elem-more s xs ys (rw e at m)))
 
 -- the inputs without cin are inputs
 pub input-of-all : (s : ℕ) (c : Record) → elemb s (inputs c) ≡ true → elemb s (allInputs c) ≡ true

@@ -2,7 +2,7 @@
 -- Assumes nothing.
 use Prim.Native.Nat.{ℕ}
 use native.Mathlib.Omega.{arith}
-use mathlib.Core.Path.{_≡_, _∙_}
+use mathlib.Core.Path.{_≡_, refl, _∙_}
 use mathlib.Core.Bool.{cond, not}
 use mathlib.Core.List.{List, _∷_, _++_}
 use lib.Dec.{eqb, ltb}
@@ -16,6 +16,7 @@ use Rattle.placing.specs.Places.{outOfRangeAt, placeTaken}
 use Rattle.netlist.specs.Tables.{NONE}
 use Rattle.judge.specs.declared.Finding.{Finding}
 use Rattle.judge.specs.Judge.{Check, finding, check, ofSheet, perCell, carryNotNext, roomChecks, exerciseGroup, answerGroup, cellGroup, placeGroup, checksTo51, firstBroken}
+use Rattle.judge.specs.Numbers.{numbersTo51}
 use Rattle.judge.specs.Stages.{numberedAs, numbered, atCell}
 use borrow.Author.Needs.{needs}
 use Rattle.judge.proofs.Broken.{Every, first-append, sheet-finds, run-finds, cells-find}
@@ -27,7 +28,7 @@ then f g = cond (eqb (f .number) 0) g f
 
 -- of two lists in turn, where all numbers of the first are known
 in-turn : (xs ys : List Check) → Every To51 xs → firstBroken (xs ++ ys) ≡ then (firstBroken xs) (firstBroken ys)
-in-turn xs ys h = first-append xs ys (known-numbered 51 xs h)
+in-turn xs ys h = first-append xs ys (known-numbered numbersTo51 refl xs h)
 
 run-15 : (e : List ℕ) → Every To51 (perCell 15 (malformed e) (cellNumbers e))
 run-15 e = run-known 15 (search needs) (malformed e) (cellNumbers e)

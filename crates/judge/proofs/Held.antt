@@ -1,16 +1,17 @@
--- A verdict is legal only if every check holds, for no check has the number 0; and how the checks of cells and LABs are taken apart.
--- Assumes nothing.
+-- A verdict is legal only if every check holds, for no check has the number 0; and how the checks of cells, of LABs and of the groups are
+-- taken apart. Assumes nothing.
 use Prim.Native.Nat.{ℕ, zero, suc, _+_, _≤_, _<_}
 use mathlib.Core.Path.{_≡_, refl}
 use mathlib.Core.Logic.{⊎-elim}
-use mathlib.Core.List.{List, [], _∷_}
+use mathlib.Core.Bool.{Bool, false}
+use mathlib.Core.List.{List, [], _∷_, _++_}
 use native.Mathlib.Nat.{eq-or-lt-of-le}
 use native.Mathlib.Omega.{arith}
 use Rattle.sheet.specs.Lists.{concatMap, from, below}
 use Rattle.sheet.specs.Checks as sheet
 use Rattle.route.specs.Table.{Table}
 use Rattle.lab.specs.Rules.{labChecks}
-use Rattle.judge.specs.Judge.{Check, ofCell, ofLab, labCells, labGroup, checksTo51, checks, verdictOf, judged}
+use Rattle.judge.specs.Judge.{Check, perCell, ofCell, ofLab, labCells, roomChecks, exerciseGroup, answerGroup, cellGroup, placeGroup, labGroup, checksTo51, checks, verdictOf, judged}
 use Rattle.judge.specs.Demands.{AllHold}
 use Rattle.judge.proofs.Broken as broken
 use Rattle.judge.proofs.Broken.{hold-append}
@@ -26,10 +27,31 @@ hold-from f i (suc k) h j l m =
 pub hold-each : (f : ℕ → List Check) (k : ℕ) → AllHold (concatMap f (below k)) → (j : ℕ) → j < k → AllHold (f j)
 hold-each f k h j l = hold-from f 0 k h j (omega arith) (omega arith)
 
+pub hold-run : (n : ℕ) (f : ℕ → Bool) (k i j : ℕ) → AllHold (perCell n f (from i k)) → i ≤ j → j < i + k → f j ≡ false
+unfolding AllHold
+hold-run n f zero i j h a b = absurd (omega arith)
+hold-run n f (suc k) i j h a b = ⊎-elim (λ e. rw (← e) (h .0)) (λ m. hold-run n f k (suc i) j (h .1) m (omega arith)) (eq-or-lt-of-le a)
+
 pub hold-number : (i : ℕ) (ks : List sheet.Check) → AllHold (ofCell i ks) → sheet.firstNumber ks ≡ 0
 unfolding AllHold
 hold-number i [] h = refl
 hold-number i (k ∷ ks) h = rw (h .0) (hold-number i ks (h .1))
+
+-- ---- the groups of checks 1 to 51
+pub record HeldGroups (e a : List ℕ) : Type 0 where
+  pub exercise : AllHold (exerciseGroup e)
+  pub answer : AllHold (answerGroup e a)
+  pub cells : AllHold (cellGroup e)
+  pub places : AllHold (placeGroup e a)
+
+pub held-groups : (e a : List ℕ) (r : ℕ) → AllHold (checksTo51 e a r) → HeldGroups e a
+unfolding checksTo51
+held-groups e a r h =
+    let after-room = hold-append (roomChecks r) _ h .1 in
+    let exercise = hold-append (exerciseGroup e) (answerGroup e a ++ (cellGroup e ++ placeGroup e a)) after-room in
+    let answer = hold-append (answerGroup e a) (cellGroup e ++ placeGroup e a) (exercise .1) in
+    let cells = hold-append (cellGroup e) (placeGroup e a) (answer .1) in
+    record { exercise = exercise .0; answer = answer .0; cells = cells .0; places = cells .1 }
 
 -- ---- a legal verdict
 module _ (t : Table) (e a : List ℕ) (r : ℕ) (legal : judged t e a r .number ≡ 0) where

@@ -1,25 +1,64 @@
--- What checks 1 to 51 leave, where they all hold: few nets, whole records, places in range that no two cells of a kind share, and cells that
--- keep 30 to 44. Assumes nothing.
+-- What checks 1 to 51 leave, where they all hold: sheets of the right length, few nets, whole records, places in range that no two cells of a
+-- kind share, and cells that keep 30 to 44. Assumes nothing.
 use Prim.Native.Nat.{ℕ, _≤_, _<_}
-use mathlib.Core.Path.{_≡_}
-use mathlib.Core.Bool.{false}
-use mathlib.Core.List.{List, _++_}
+use mathlib.Core.Path.{_≡_, _∙_}
+use mathlib.Core.Bool.{false, not}
+use mathlib.Core.List.{List, [], _∷_, _++_}
 use native.Mathlib.Omega.{arith}
-use lib.Dec.{ltb}
-use borrow.Author.Tests.{ltb-false}
+use lib.ListN.{length}
+use lib.Dec.{eqb, ltb}
+use borrow.Author.Tests.{eqb-true, ltb-false, not-false}
 use Rattle.sheet.specs.Checks.{firstNumber}
-use Rattle.sheet.specs.Exercise.{netCount, cellCount, overLimit}
+use Rattle.sheet.specs.Exercise.{netCount, cellCount, recordStart, overLimit, exerciseChecks, wrongExerciseLength}
+use Rattle.sheet.specs.Answer.{placeCount, placeStart, answerChecks, wrongAnswerLength}
 use Rattle.sheet.specs.Record.{isMalformed}
+use Rattle.sheet.proofs.Laws.{or-parts}
 use Rattle.netlist.specs.Cells.{cell, cellNumbers, malformed, doubleDriver, cellChecks}
 use Rattle.placing.specs.Places.{outOfRangeAt, placeTaken}
-use Rattle.judge.specs.Judge.{perCell, ofCell, carryNotNext, roomChecks, exerciseGroup, answerGroup, cellGroup, placeGroup, checksTo51}
+use Rattle.judge.specs.Judge.{Check, check, ofSheet, perCell, ofCell, carryNotNext, exerciseGroup, answerGroup, cellGroup, placeGroup, checksTo51}
 use Rattle.judge.specs.Demands.{AllHold}
-use Rattle.judge.proofs.Broken.{hold-append}
-use Rattle.judge.proofs.Held.{hold-each, hold-number}
-use Rattle.judge.proofs.Refusal65.{hold-run, places-hold}
-use Rattle.sheet.proofs.Laws.{or-parts}
+use Rattle.judge.proofs.Broken.{held, hold-append}
+use Rattle.judge.proofs.Held.{hold-each, hold-run, hold-number, HeldGroups, held-groups}
 
--- what 13, 15, 26, 30 to 44 and 50 leave
+-- ---- the parts of the groups: 10 to 14; 15; 16; 20 to 25; 26
+abbrev pub exerciseHead : List ℕ → List Check
+exerciseHead e = ofSheet (exerciseChecks e)
+
+abbrev pub recordRun : List ℕ → List Check
+recordRun e = perCell 15 (malformed e) (cellNumbers e)
+
+abbrev pub driverRun : List ℕ → List Check
+driverRun e = perCell 16 (doubleDriver e) (cellNumbers e)
+
+abbrev pub answerHead : List ℕ → List ℕ → List Check
+answerHead e a = ofSheet (answerChecks a) ++ (check 24 (not (eqb (placeCount a) (cellCount e))) ∷ check 25 (wrongAnswerLength a) ∷ [])
+
+abbrev pub rangeRun : List ℕ → List ℕ → List Check
+rangeRun e a = perCell 26 (outOfRangeAt a) (cellNumbers e)
+
+-- ---- the lengths of the sheets
+-- 14
+pub exercise-length : (e : List ℕ) → AllHold (exerciseHead e) → length e ≡ recordStart (cellCount e)
+unfolding wrongExerciseLength
+exercise-length e h = eqb-true (length e) (recordStart (cellCount e)) (not-false _ (held 14 (exerciseHead e) h))
+
+-- 24 and 25
+pub answer-length : (e a : List ℕ) → AllHold (answerHead e a) → length a ≡ placeStart (cellCount e)
+unfolding wrongAnswerLength
+answer-length e a h =
+    let same = eqb-true (placeCount a) (cellCount e) (not-false _ (held 24 (answerHead e a) h)) in
+    eqb-true (length a) (placeStart (placeCount a)) (not-false _ (held 25 (answerHead e a) h)) ∙ rw same
+
+module _ (e a : List ℕ) where
+  pub exercise-parts : AllHold (exerciseGroup e) → AllHold (exerciseHead e) × AllHold (recordRun e ++ driverRun e)
+  unfolding exerciseGroup
+  exercise-parts h = hold-append (exerciseHead e) (recordRun e ++ driverRun e) h
+
+  pub answer-parts : AllHold (answerGroup e a) → AllHold (answerHead e a) × AllHold (rangeRun e a)
+  unfolding answerGroup
+  answer-parts h = hold-append (answerHead e a) (rangeRun e a) h
+
+-- ---- what 13, 15, 26, 30 to 44 and 50 leave
 pub record Kept (e a : List ℕ) : Type 0 where
   pub few : netCount e ≤ 1024
   pub whole : (i : ℕ) → i < cellCount e → isMalformed (cell e i) ≡ false
@@ -27,37 +66,36 @@ pub record Kept (e a : List ℕ) : Type 0 where
   pub keeps : (i : ℕ) → i < cellCount e → firstNumber (cellChecks e i) ≡ 0
   pub alone : (i : ℕ) → i < cellCount e → placeTaken e a i ≡ false
 
-module _ (e a : List ℕ) (r : ℕ) (held : AllHold (checksTo51 e a r)) where
-  groups : AllHold (exerciseGroup e) × AllHold (cellGroup e) × AllHold (placeGroup e a)
-  unfolding checksTo51 roomChecks AllHold
-  groups =
-      let exercise = hold-append (exerciseGroup e) (answerGroup e a ++ (cellGroup e ++ placeGroup e a)) (held .1) in
-      let answer = hold-append (answerGroup e a) (cellGroup e ++ placeGroup e a) (exercise .1) in
-      let cells = hold-append (cellGroup e) (placeGroup e a) (answer .1) in
-      (exercise .0, cells .0, cells .1)
+module _ (e a : List ℕ) (r : ℕ) (holds : AllHold (checksTo51 e a r)) where
+  groups : HeldGroups e a
+  groups = held-groups e a r holds
 
   few-nets : netCount e ≤ 1024
-  unfolding AllHold exerciseGroup overLimit
-  few-nets = ltb-false 1024 (netCount e) (or-parts (ltb 1024 (netCount e)) (ltb 512 (cellCount e)) (groups .0 .1 .1 .1 .0) .0)
+  unfolding exerciseGroup overLimit
+  few-nets = ltb-false 1024 (netCount e) (or-parts (ltb 1024 (netCount e)) (ltb 512 (cellCount e)) (held 13 (exerciseGroup e) (groups .exercise)) .0)
 
   -- 15
   whole-cells : (i : ℕ) → i < cellCount e → isMalformed (cell e i) ≡ false
-  unfolding AllHold exerciseGroup malformed
+  unfolding malformed
   whole-cells i l =
-      let h = hold-append (perCell 15 (malformed e) (cellNumbers e)) (perCell 16 (doubleDriver e) (cellNumbers e)) (groups .0 .1 .1 .1 .1 .1) in
+      let h = hold-append (recordRun e) (driverRun e) (exercise-parts e a (groups .exercise) .1) in
       hold-run 15 (malformed e) (cellCount e) 0 i (h .0) (omega arith) (omega arith)
+
+  -- 26
+  pub places-held : (i : ℕ) → i < cellCount e → outOfRangeAt a i ≡ false
+  places-held i l = hold-run 26 (outOfRangeAt a) (cellCount e) 0 i (answer-parts e a (groups .answer) .1) (omega arith) (omega arith)
 
   -- 30 to 44
   cells-keep : (i : ℕ) → i < cellCount e → firstNumber (cellChecks e i) ≡ 0
   unfolding cellGroup
-  cells-keep i l = hold-number i (cellChecks e i) (hold-each (λ i. ofCell i (cellChecks e i)) (cellCount e) (groups .1) i l)
+  cells-keep i l = hold-number i (cellChecks e i) (hold-each (λ i. ofCell i (cellChecks e i)) (cellCount e) (groups .cells) i l)
 
   -- 50
   places-free : (i : ℕ) → i < cellCount e → placeTaken e a i ≡ false
   unfolding placeGroup
   places-free i l =
-      let h = hold-append (perCell 50 (placeTaken e a) (cellNumbers e)) (perCell 51 (carryNotNext e a) (cellNumbers e)) (groups .2) in
+      let h = hold-append (perCell 50 (placeTaken e a) (cellNumbers e)) (perCell 51 (carryNotNext e a) (cellNumbers e)) (groups .places) in
       hold-run 50 (placeTaken e a) (cellCount e) 0 i (h .0) (omega arith) (omega arith)
 
   pub all-kept : Kept e a
-  all-kept = record { few = few-nets; whole = whole-cells; placed = places-hold e a r held; keeps = cells-keep; alone = places-free }
+  all-kept = record { few = few-nets; whole = whole-cells; placed = places-held; keeps = cells-keep; alone = places-free }

@@ -6,12 +6,14 @@ pub mod Sound
 pub mod LabsFound
 pub mod FitCells
 pub mod Held
-pub mod Refusal65
 pub mod Kept
+pub mod Refusal65
 pub mod RouteHeld
+pub mod Faults
+pub mod CulpritInside
+pub mod NamesCulprit
 pub mod Demand1
 pub mod Demand2
 pub mod Demand3
-pub mod CulpritInside
 pub mod Steps
 pub mod Ring

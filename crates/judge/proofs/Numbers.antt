@@ -1,19 +1,22 @@
 -- The numbers of the checks are those of document 01's table: 1 to 51, then 60 to 65 of the LABs. Assumes nothing.
-use Prim.Native.Nat.{ℕ, _≤_}
-use mathlib.Core.Path.{_≡_}
-use mathlib.Core.Bool.{Bool, true}
+use Prim.Native.Nat.{ℕ}
+use mathlib.Core.Path.{_≡_, refl, sym, _∙_}
+use mathlib.Core.Bool.{Bool, true, false, true≢false}
 use mathlib.Core.List.{List, [], _∷_, _++_, map}
-use native.Mathlib.Omega.{arith}
+use lib.Dec.{eqb}
+use borrow.Author.Tests.{eqb-true}
 use borrow.Author.Needs.{needs}
 use Rattle.sheet.specs.Lists.{concatMap, elemb, below}
 use Rattle.sheet.specs.Exercise.{exerciseChecks}
+use Rattle.sheet.proofs.Laws.{by-test}
 use Rattle.sheet.specs.declared.Record.{Record}
 use Rattle.sheet.specs.declared.Record.the-variants.{Combinational, Register, Malformed}
 use Rattle.route.specs.Table.{Table}
 use Rattle.lab.specs.Rules.{labRules, labChecks}
 use Rattle.netlist.specs.Cells.{cell, cellNumbers, checksOf, cellChecks}
-use Rattle.judge.specs.Judge.{Check, cellCheck, perCell, ofSheet, ofCell, ofLab, labCells, roomChecks, exerciseGroup, answerGroup, cellGroup, placeGroup, labGroup, checksTo51, checks}
-use Rattle.judge.specs.Demands.{numbers}
+use Rattle.judge.specs.Judge.{Check, cellCheck, perCell, ofSheet, ofCell, ofLab, labCells, roomChecks, exerciseGroup, answerGroup, cellGroup, placeGroup, labGroup, checksTo51, checks, firstBroken}
+use Rattle.judge.specs.Numbers.{numbersTo51, labNumbers, refusalNumbers}
+use Rattle.judge.specs.Demands.{AllHold}
 use Rattle.judge.proofs.Broken.{Every, Numbered, NumberedIn}
 
 -- ---- of every element
@@ -39,23 +42,40 @@ module _ {A : Type 0} where
     every-joined f h [] = tt
     every-joined f h (x ∷ xs) = every-append Q (f x) (concatMap f xs) (h x) (every-joined f h xs)
 
--- ---- a number of the table, from lo to hi
-pub record Known (lo hi n : ℕ) : Type 0 where
-  pub listed : elemb n numbers ≡ true
-  pub least : lo ≤ n
-  pub most : n ≤ hi
+-- ---- a number in a list
+-- what is true of each number of a list
+pub of-list : (P : ℕ → Type 0) (ns : List ℕ) → Every P ns → (n : ℕ) → elemb n ns ≡ true → P n
+unfolding Every
+of-list P [] h n m = absurd (true≢false (sym m))
+of-list P (x ∷ xs) h n m = by-test (eqb n x) (λ q. rw (eqb-true n x q) (h .0)) (λ q. of-list P xs (h .1) n (rw q at m))
+
+pub elem-more : (s : ℕ) (xs ys : List ℕ) → elemb s xs ≡ true → elemb s (xs ++ ys) ≡ true
+elem-more s [] ys m = absurd (true≢false (sym m))
+elem-more s (x ∷ xs) ys m = by-test (eqb s x) (λ e. rw e) (λ e. rw e (elem-more s xs ys (rw e at m)))
+
+-- a check has one of the numbers of a list
+abbrev pub In : List ℕ → Check → Type 0
+In ns k = elemb (k .finding .number) ns ≡ true
 
 abbrev pub To51 : Check → Type 0
-To51 k = Known 1 51 (k .finding .number)
+To51 = In numbersTo51
 
-abbrev pub To65 : Check → Type 0
-To65 k = Known 1 65 (k .finding .number)
+module _ (n : ℕ) (ns : List ℕ) (none : elemb n ns ≡ false) where
+  other : (m : ℕ) → elemb m ns ≡ true → m ≡ n → ⊥
+  other m h q = true≢false (sym h ∙ rw q none)
 
-pub known-numbered : (hi : ℕ) (ks : List Check) → Every (λ k. Known 1 hi (k .finding .number)) ks → Numbered ks
-known-numbered hi ks h = every-weaker (λ k. Known 1 hi (k .finding .number)) _ (λ k g z. let l = g .least in omega arith) ks h
+  -- where the first broken check has a number that none of the first list has, these all hold
+  pub later-held : (xs ys : List Check) → Every (In ns) xs → firstBroken (xs ++ ys) .number ≡ n → AllHold xs
+  unfolding Every AllHold
+  later-held [] ys h e = tt
+  later-held (x ∷ xs) ys h e =
+      by-test (x .broken) (λ b. absurd (other (x .finding .number) (h .0) (rw b at e))) (λ b. (b, later-held xs ys (h .1) (rw b at e)))
+
+pub known-numbered : (ns : List ℕ) → elemb 0 ns ≡ false → (ks : List Check) → Every (In ns) ks → Numbered ks
+known-numbered ns none ks h = every-weaker (In ns) _ (λ k g. other 0 ns none (k .finding .number) g) ks h
 
 -- ---- the parts of the list of checks
-pub run-known : (n : ℕ) → Known 1 51 n → (f : ℕ → Bool) (all : List ℕ) → Every To51 (perCell n f all)
+pub run-known : (n : ℕ) → elemb n numbersTo51 ≡ true → (f : ℕ → Bool) (all : List ℕ) → Every To51 (perCell n f all)
 run-known n h f all = every-image To51 (λ i. cellCheck n i (f i)) (λ i. h) all
 
 pub room-known : (r : ℕ) → Every To51 (roomChecks r)
@@ -92,11 +112,15 @@ pub cell-numbered : (e : List ℕ) (i : ℕ) → NumberedIn (cellChecks e i)
 unfolding cellChecks
 cell-numbered e i = of-kind-numbered e i (cell e i)
 
-pub rules-known : (cs : List Record) → Every (λ k. Known 60 64 (k .number)) (labRules cs)
+-- the LAB rules but for 65
+abbrev pub numbersTo64 : List ℕ
+numbersTo64 = 60 ∷ 61 ∷ 62 ∷ 63 ∷ 64 ∷ []
+
+pub rules-known : (cs : List Record) → Every (λ k. elemb (k .number) numbersTo64 ≡ true) (labRules cs)
 unfolding Every
 rules-known cs = search needs
 
-lab-known : (t : Table) (cs : List Record) (l : ℕ) → Every To65 (ofLab l (labChecks t cs))
+lab-known : (t : Table) (cs : List Record) (l : ℕ) → Every (In refusalNumbers) (ofLab l (labChecks t cs))
 unfolding Every
 lab-known t cs l = search needs
 
@@ -111,12 +135,15 @@ pub to-51-known : (e a : List ℕ) (r : ℕ) → Every To51 (checksTo51 e a r)
 unfolding checksTo51 exerciseGroup placeGroup
 to-51-known e a r = search parts depth 20
 
-pub all-known : (t : Table) (e a : List ℕ) (r : ℕ) → Every To65 (checks t e a r)
+pub to-51-numbered : (e a : List ℕ) (r : ℕ) → Numbered (checksTo51 e a r)
+to-51-numbered e a r = known-numbered numbersTo51 refl (checksTo51 e a r) (to-51-known e a r)
+
+pub all-known : (t : Table) (e a : List ℕ) (r : ℕ) → Every (In refusalNumbers) (checks t e a r)
 unfolding checks labGroup
 all-known t e a r =
-    every-append To65 (checksTo51 e a r) _
-    (every-weaker To51 To65 (λ k h. search needs) (checksTo51 e a r) (to-51-known e a r))
-    (every-joined To65 (λ l. ofLab l (labChecks t (labCells e a l))) (λ l. lab-known t (labCells e a l) l) (below 1024))
+    every-append (In refusalNumbers) (checksTo51 e a r) _
+    (every-weaker To51 _ (λ k h. elem-more (k .finding .number) numbersTo51 labNumbers h) (checksTo51 e a r) (to-51-known e a r))
+    (every-joined (In refusalNumbers) (λ l. ofLab l (labChecks t (labCells e a l))) (λ l. lab-known t (labCells e a l) l) (below 1024))
 
 pub all-numbered : (t : Table) (e a : List ℕ) (r : ℕ) → Numbered (checks t e a r)
-all-numbered t e a r = known-numbered 65 (checks t e a r) (all-known t e a r)
+all-numbered t e a r = known-numbered refusalNumbers refl (checks t e a r) (all-known t e a r)

@@ -1,15 +1,14 @@
 -- Refusal 65 names a LAB exactly when the four things of demand 3 are true of it. Assumes nothing.
 use Prim.Native.Nat.{ℕ, zero, suc, _+_, _<_, _≤_}
 use mathlib.Core.Path.{_≡_, refl, sym, ap, _∙_}
-use mathlib.Core.Logic.{_↔_, ⊎-elim}
+use mathlib.Core.Logic.{_↔_}
 use mathlib.Core.Bool.{Bool, true, false, cond, not, true≢false}
 use mathlib.Core.List.{List, [], _∷_, _++_}
-use native.Mathlib.Nat.{eq-or-lt-of-le}
 use native.Mathlib.Decide.{decLt}
 use native.Mathlib.Omega.{arith}
 use lib.Dec.{eqb, ltb}
 use borrow.Author.Tests.{eqb-true, ne-eqb, lt-ltb}
-use Rattle.sheet.specs.Lists.{concatMap, filterb, from, below, firstFrom}
+use Rattle.sheet.specs.Lists.{concatMap, filterb, elemb, from, below, firstFrom}
 use Rattle.sheet.specs.Checks as sheet
 use Rattle.sheet.specs.Exercise.{cellCount}
 use Rattle.sheet.specs.declared.Record.{Record}
@@ -20,21 +19,23 @@ use Rattle.route.proofs.AllWays.{earliest-some, no-needs}
 use Rattle.lab.specs.Ports.{inLab}
 use Rattle.lab.specs.Rules.{needs, noWay, labRules, labChecks}
 use Rattle.lab.proofs.Routes.{stuck, goes}
-use Rattle.placing.specs.Places.{labAt, outOfRangeAt}
+use Rattle.placing.specs.Places.{labAt}
 use Rattle.labs.specs.Members.{members}
 use Rattle.netlist.specs.Tables.{NONE}
 use Rattle.judge.specs.declared.Finding.{Finding}
-use Rattle.judge.specs.Judge.{Check, finding, perCell, ofLab, labCells, roomChecks, exerciseGroup, answerGroup, labGroup, checksTo51, checks, firstBroken, judged, verdictOf}
+use Rattle.judge.specs.Judge.{Check, finding, ofLab, labCells, labGroup, checksTo51, checks, firstBroken, judged, verdictOf}
+use Rattle.judge.specs.Numbers.{numbersTo51}
 use Rattle.judge.specs.Demands.{AllHold, FourThings, Keeps60to64, Keeps65, labNeeds}
-use Rattle.judge.proofs.Broken.{Every, Numbered, NumberedIn, found, skip-held, hold-append, first-append, legal-hold, breaksOne, labs-find}
+use Rattle.judge.proofs.Broken.{Every, NumberedIn, skip-held, breaksOne, labs-find}
 use Rattle.sheet.proofs.First.{before-first, first-is}
-use Rattle.judge.proofs.Numbers.{Known, To51, every-weaker, known-numbered, rules-known, lab-numbered, to-51-known}
+use Rattle.judge.proofs.Numbers.{numbersTo64, later-held, rules-known, lab-numbered, to-51-known}
+use Rattle.judge.proofs.Kept.{places-held}
 use Rattle.placing.proofs.Places.{lab-in-range}
 
 -- ---- the number of one LAB: 65 where its rules hold and 65 does not, 0 where all hold
-differs : (n : ℕ) (b : Bool) → Known 60 64 n → n ≡ cond b 65 0 → ⊥
-differs n true k e = let m = k .most in omega arith
-differs n false k e = let l = k .least in omega arith
+differs : (n : ℕ) (b : Bool) → elemb n numbersTo64 ≡ true → n ≡ cond b 65 0 → ⊥
+differs n true k e = true≢false (sym (rw e at k))
+differs n false k e = true≢false (sym (rw e at k))
 
 same-test : (c b : Bool) → _≡_ {A = ℕ} (cond c 65 0) (cond b 65 0) → c ≡ b
 same-test true true e = refl
@@ -43,7 +44,7 @@ same-test false true e = absurd (omega arith)
 same-test false false e = refl
 
 module _ (l : ℕ) (c b : Bool) where
-  from-number : (ks : List sheet.Check) → Every (λ k. Known 60 64 (k .number)) ks
+  from-number : (ks : List sheet.Check) → Every (λ k. elemb (k .number) numbersTo64 ≡ true) ks
       → sheet.firstNumber (ks ++ sheet.check 65 c ∷ []) ≡ cond b 65 0
       → AllHold (ofLab l ks) × (c ≡ b)
   unfolding Every AllHold
@@ -83,29 +84,16 @@ module _ (g : ℕ → List sheet.Check) (numbered : (j : ℕ) → NumberedIn (g 
       labs-find g k numbered ∙ rw (is, lt-ltb l k h, u)
 
 -- ---- a LAB that has no way has a cell, so its number is below 1024
-pub hold-run : (n : ℕ) (f : ℕ → Bool) (k i j : ℕ) → AllHold (perCell n f (from i k)) → i ≤ j → j < i + k → f j ≡ false
-unfolding AllHold
-hold-run n f zero i j h a b = absurd (omega arith)
-hold-run n f (suc k) i j h a b = ⊎-elim (λ e. rw (← e) (h .0)) (λ m. hold-run n f k (suc i) j (h .1) m (omega arith)) (eq-or-lt-of-le a)
-
 none-pass : (p : ℕ → Bool) (k i : ℕ) → ((j : ℕ) → i ≤ j → j < i + k → p j ≡ false) → filterb p (from i k) ≡ []
 none-pass p zero i h = refl
 none-pass p (suc k) i h = rw (h i (omega arith) (omega arith)) (none-pass p k (suc i) (λ j a b. h j (omega arith) (omega arith)))
 
 module _ (e a : List ℕ) where
-  -- 26 is among the checks to 51
-  pub places-hold : (r : ℕ) → AllHold (checksTo51 e a r) → (i : ℕ) → i < cellCount e → outOfRangeAt a i ≡ false
-  unfolding checksTo51 answerGroup AllHold
-  places-hold r h i m =
-      let after = hold-append (exerciseGroup e) _ (hold-append (roomChecks r) _ h .1) .1 in
-      let answer = hold-append (answerGroup e a) _ after .0 in
-      hold-run 26 (outOfRangeAt a) (cellCount e) 0 i (answer .1 .1 .1 .1 .1 .1) (omega arith) (omega arith)
-
   nobody : (r l : ℕ) → AllHold (checksTo51 e a r) → 1024 ≤ l → labCells e a l ≡ []
   unfolding labCells members
   nobody r l h g =
       rw (none-pass (λ i. eqb (labAt a i) l) (cellCount e) 0
-      (λ i _ m. ne-eqb (labAt a i) l (λ q. omega (arith, lab-in-range a i (places-hold r h i (omega arith))))))
+      (λ i _ m. ne-eqb (labAt a i) l (λ q. omega (arith, lab-in-range a i (places-held e a r h i (omega arith))))))
 
 module _ (t : Table) (e a : List ℕ) (r l : ℕ) where
   on-board : FourThings t e a r l → l < 1024
@@ -155,16 +143,9 @@ module _ (t : Table) (e a : List ℕ) (r l : ℕ) where
   abbrev early : List Check
   early = checksTo51 e a r
 
-  early-numbered : Numbered early
-  early-numbered = known-numbered 51 early (to-51-known e a r)
-
-  -- a finding of number 65 is none of 1 to 51
+  -- 65 is none of the numbers 1 to 51
   early-held : firstBroken (early ++ labGroup t e a) .number ≡ 65 → AllHold early
-  early-held n =
-      by-test (eqb (firstBroken early .number) 0) (λ q. legal-hold early early-numbered (eqb-true (firstBroken early .number) 0 q))
-      (λ q. let is = rw q at (first-append early (labGroup t e a) early-numbered) in
-      let most = found (λ f. f .number ≤ 51) (omega arith) early (every-weaker To51 _ (λ k h. h .most) early (to-51-known e a r)) in
-      absurd (omega (arith, rw is at n)))
+  early-held n = later-held 65 numbersTo51 refl early (labGroup t e a) (to-51-known e a r) n
 
   pub refusal-65 : ((judged t e a r .number ≡ 65) × (judged t e a r .lab ≡ l)) ↔ FourThings t e a r l
   unfolding judged verdictOf checks

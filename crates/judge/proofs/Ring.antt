@@ -19,7 +19,7 @@ use Rattle.netlist.specs.Tables.{NONE}
 use Rattle.judge.specs.Judge.{finding, perCell, standsApart, carryNotNext, roomChecks, exerciseGroup, answerGroup, cellGroup, placeGroup, labGroup, checksTo51, checks, firstBroken, judged, verdictOf}
 use Rattle.judge.specs.Demands.{AllHold}
 use Rattle.judge.proofs.Broken.{first-append, skip-held, run-finds}
-use Rattle.judge.proofs.Numbers.{known-numbered, to-51-known}
+use Rattle.judge.proofs.Numbers.{to-51-numbered}
 use Rattle.sheet.proofs.First.{none-below}
 
 -- the cout of cell j is the cin of cell i
@@ -91,5 +91,5 @@ module _ (e a : List ℕ) (ring : ℕ → ℕ) (k : ℕ) (s : Ring e ring k) whe
     pub ring-ends-in-51 : (t : Table) → judged t e a r .number ≡ 51
     unfolding judged verdictOf checks
     ring-ends-in-51 t =
-        let first = first-append (checksTo51 e a r) (labGroup t e a) (known-numbered 51 (checksTo51 e a r) (to-51-known e a r)) in
+        let first = first-append (checksTo51 e a r) (labGroup t e a) (to-51-numbered e a r) in
         rw (first, found-first)

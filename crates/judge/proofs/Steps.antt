@@ -5,16 +5,17 @@ use native.Mathlib.Omega.{arith}
 use mathlib.Core.Path.{_≡_, refl, sym, ap, _∙_}
 use mathlib.Core.Bool.{Bool, true, false, cond, not}
 use mathlib.Core.List.{List, [], _∷_, _++_}
-use lib.ListN.{length, replicate, length-replicate}
+use lib.ListN.{length, getD, drop, replicate, length-replicate}
+use lib.Seq.{drop-cons, drop-length}
 use lib.Dec.{eqb, ltb}
-use borrow.Author.Tests.{eq-eqb, ne-eqb, eqb-true, eqb-false, not-true, lt-ltb, le-ltb, le-leb, lt-leb}
-use Rattle.sheet.specs.Lists.{concatMap, filterb, from, below, firstFrom}
+use borrow.Author.Tests.{eq-eqb, ne-eqb, eqb-true, eqb-false, not-true, lt-ltb, le-ltb}
+use Rattle.sheet.specs.Lists.{concatMap, filterb, elemb, from, below, firstFrom}
 use Rattle.sheet.specs.Bytes.{beginsAt}
 use Rattle.sheet.specs.Exercise.{netCount, cellCount, exerciseNumber}
 use Rattle.sheet.specs.Answer.{answerNumber, placeCount, wrongAnswerLength, placeStart}
 use Rattle.route.specs.Table.{Table, houseBoard}
 use Rattle.lab.specs.Rules.{routeOf}
-use Rattle.sheet.proofs.Laws.{by-test, passes, stops}
+use Rattle.sheet.proofs.Laws.{by-test}
 use Rattle.lab.specs.Counts.{AllFit}
 use Rattle.netlist.specs.Cells.{cell, malformed, doubleDriver, cellNumber}
 use Rattle.netlist.specs.Tables.{NONE, malformedAt, doubleFrom, readsBelow, readersBelow, driversBelow, numberBy, numberAt, brokenAt}
@@ -25,14 +26,16 @@ use Rattle.labs.specs.Results.{resultAt, brokenLab, putRows}
 use Rattle.labs.proofs.Rows.{rows-long}
 use Rattle.sheet.specs.Record.{knownAt}
 use Rattle.sheet.specs.declared.Record.{Record}
+use Rattle.judge.specs.declared.Fault.{Fault}
 use Rattle.judge.specs.declared.Finding.{Finding}
 use Rattle.judge.specs.declared.Part.{Part}
 use Rattle.judge.specs.declared.Verdict.{Verdict}
-use Rattle.judge.specs.Judge.{finding, legal, ofAnswer, exerciseGroup, answerGroup, cellGroup, placeGroup, labGroup, checksTo51, checks, labCells, firstBroken, firstOr, lowestIn, verdictOf, judged, bytesOf, addressOf, routed}
+use Rattle.judge.specs.Judge.{finding, legal, ofAnswer, exerciseGroup, answerGroup, cellGroup, placeGroup, labGroup, checksTo51, checks, labCells, firstBroken, firstOr, lowestIn, culpritAt, culpritOf, verdictOf, judged, bytesOf, addressOf, routed}
+use Rattle.judge.specs.Numbers.{faultOf}
 use Rattle.judge.specs.Culprit.{Inside, CulpritLaw}
 use Rattle.judge.specs.Stages.{numberedAs, numbered, numberedLab, placedBy, numbersOf}
 use Rattle.judge.proofs.Broken.{first-append}
-use Rattle.judge.proofs.Numbers.{known-numbered, to-51-known}
+use Rattle.judge.proofs.Numbers.{to-51-numbered}
 use Rattle.judge.proofs.Groups.{then, exercise-finds, answer-finds, cells-finds, cells-places-find, to-51-finds}
 use Rattle.judge.proofs.CulpritInside.{culprit-inside}
 use Rattle.judge.proofs.FitCells.{lab-fit}
@@ -235,6 +238,29 @@ module _ (a : List ℕ) (n l i : ℕ) (s : Lowest a n l i) where
 
 pub ruleset lowest-steps = (lowest-starts, lowest-goes, lowest-stops, lowest-ends)
 
+-- ---- a number in a list: none of those before i is it
+pub record Unmet (n : ℕ) (l : List ℕ) (i : ℕ) : Type 0 where
+  pub within : i ≤ length l
+  pub same : elemb n l ≡ elemb n (drop i l)
+
+pub unmet-starts : (n : ℕ) (l : List ℕ) → Unmet n l 0
+unmet-starts n l = record { within = omega arith; same = refl }
+
+module _ (n : ℕ) (l : List ℕ) (i : ℕ) (s : Unmet n l i) where
+  pub unmet-goes : i < length l → (getD l i 0 ≡ n → ⊥) → Unmet n l (i + 1)
+  unmet-goes h d =
+      record { within = omega arith; same = s .same ∙ rw (drop-cons l i 0 h, ne-eqb n (getD l i 0) (λ q. d (sym q)), add-one) }
+
+  pub unmet-stops : i < length l → getD l i 0 ≡ n → true ≡ elemb n l
+  unmet-stops h e = sym (s .same ∙ rw (drop-cons l i 0 h, eq-eqb n (getD l i 0) (sym e)))
+
+  pub unmet-ends : length l ≤ i → false ≡ elemb n l
+  unmet-ends h =
+      let all : i ≡ length l = omega (arith, s .within) in
+      sym (s .same ∙ rw (all, drop-length))
+
+pub ruleset unmet-steps = (unmet-starts, unmet-goes, unmet-stops, unmet-ends)
+
 -- ---- the culprit
 pub from-start : (b : Bool) (x y : ℕ) → x ≡ y → _≡_ {A = Part} (record { «of_answer» = b; start = 0; size = x }) (record { «of_answer» = b; start = 0; size = y })
 from-start b x y h = rw h
@@ -242,7 +268,11 @@ from-start b x y h = rw h
 pub place-lowest : (a : List ℕ) (n c m l : ℕ) {r : Part} → r ≡ ofAnswer (placeStart m) 4 → m ≡ lowestIn a c l → c ≡ n → r ≡ ofAnswer (placeStart (lowestIn a n l)) 4
 place-lowest a n c m l h k q = h ∙ rw (k, q)
 
-pub ruleset culprit-steps = (from-start, place-lowest, passes, stops, le-leb, lt-leb)
+pub culprit-is : (e a : List ℕ) (f : Finding) (k m : Fault) {r : Part} → k ≡ faultOf (f .number) → k ≡ m → r ≡ culpritAt e a f m → r ≡ culpritOf e a f
+unfolding culpritOf
+culprit-is e a f k m h q p = p ∙ ap (culpritAt e a f) (sym q ∙ h)
+
+pub ruleset culprit-steps = (from-start, place-lowest, culprit-is)
 
 -- ---- the rows begin as 255s and keep their length
 abbrev blank : List ℕ
@@ -305,7 +335,7 @@ module _ (t : Table) (e a : List ℕ) (room : ℕ) (passed : firstBroken (checks
 module _ (t : Table) (e a before : List ℕ) (f : Finding) (x : f ≡ firstBroken (checksTo51 e a (length before))) where
   whole : firstBroken (checks t e a (length before)) ≡ then f (firstBroken (labGroup t e a))
   unfolding checks
-  whole = first-append (checksTo51 e a (length before)) (labGroup t e a) (known-numbered 51 (checksTo51 e a (length before)) (to-51-known e a (length before))) ∙ rw (← x)
+  whole = first-append (checksTo51 e a (length before)) (labGroup t e a) (to-51-numbered e a (length before)) ∙ rw (← x)
 
   module _ (v : Verdict) where
     pub judge-refused : (f .number ≡ 0 → ⊥) → v ≡ verdictOf e a f → (v ≡ judged t e a (length before)) × (before ≡ routed t e a before)

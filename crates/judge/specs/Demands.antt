@@ -1,25 +1,55 @@
 -- The three demands, as statements. A reader needs this file, Judge, and the definitions that Judge names: nothing of any proof.
 -- Assumes nothing.
-use Prim.Native.Nat.{ℕ, _+_, _*_, _<_}
+use Prim.Native.Nat.{ℕ, _+_, _*_, _<_, min}
 use mathlib.Core.Path.{_≡_}
 use mathlib.Core.Logic.{_↔_, _⊎_}
-use mathlib.Core.Bool.{Bool, true, false}
+use mathlib.Core.Bool.{true, false, cond}
 use mathlib.Core.List.{List, [], _∷_, _++_}
 use lib.ListN.{length, getD}
 use Rattle.sheet.specs.Lists.{elemb}
+use Rattle.sheet.specs.Exercise.{cellCount, recordStart}
+use Rattle.sheet.specs.Answer.{apprentice, placeStart}
+use Rattle.placing.specs.Places.{labAt}
 use Rattle.route.specs.declared.Need.{Need}
 use Rattle.route.specs.Table.{Table}
 use Rattle.route.specs.Way.{Way, Earlier}
 use Rattle.route.specs.Route.{byteOfNeed}
 use Rattle.lab.specs.Rules.{needs, labRules}
 use Rattle.judge.specs.declared.Verdict.{Verdict}
-use Rattle.judge.specs.Judge.{Check, checks, checksTo51, ofLab, labCells, occupied, apprenticeOf, judged, routed, verdictOf}
+use Rattle.judge.specs.Judge.{Check, checks, checksTo51, ofLab, labCells, occupied, ofExercise, ofAnswer, judged, routed, verdictOf}
 
 -- the numbers of document 01's table that a judgement can give
 abbrev pub numbers : List ℕ
 numbers =
     0 ∷ 1 ∷ 10 ∷ 11 ∷ 12 ∷ 13 ∷ 14 ∷ 15 ∷ 16 ∷ 20 ∷ 21 ∷ 22 ∷ 23 ∷ 24 ∷ 25 ∷ 26
     ∷ 30 ∷ 31 ∷ 32 ∷ 33 ∷ 34 ∷ 35 ∷ 40 ∷ 41 ∷ 42 ∷ 43 ∷ 44 ∷ 50 ∷ 51 ∷ 60 ∷ 61 ∷ 62 ∷ 63 ∷ 64 ∷ 65 ∷ []
+
+-- the number of a verdict is one of these
+abbrev pub OneOf : Verdict → List ℕ → Type 0
+OneOf v ns = elemb (v .number) ns ≡ true
+
+-- i is the lowest of the exercise's cells that the answer puts into LAB l
+pub record LowestCell (e a : List ℕ) (l i : ℕ) : Type 0 where
+  pub is-cell : i < cellCount e
+  pub stands : labAt a i ≡ l
+  pub none-lower : (j : ℕ) → j < i → labAt a j ≡ l → ⊥
+
+-- "a refusal names its culprit": for each number which part of which sheet that is. The numbers stand here as document 01 has them
+pub record NamesCulprit (e a : List ℕ) (v : Verdict) : Type 0 where
+  -- "for 0 and 1 the empty part at the answer's end"
+  pub call : OneOf v (0 ∷ 1 ∷ []) → v .culprit ≡ ofAnswer (length a) 0
+  -- "for 10 to 14 the first 9 bytes of the exercise (all of them if fewer)"
+  pub exercise-head : OneOf v (10 ∷ 11 ∷ 12 ∷ 13 ∷ 14 ∷ []) → v .culprit ≡ ofExercise 0 (min 9 (length e))
+  -- "for 15, 16 and 30 to 44 that cell's exercise record"
+  pub cell-record : OneOf v (15 ∷ 16 ∷ 30 ∷ 31 ∷ 32 ∷ 33 ∷ 34 ∷ 35 ∷ 40 ∷ 41 ∷ 42 ∷ 43 ∷ 44 ∷ [])
+      → (v .cell < cellCount e) × (v .culprit ≡ ofExercise (recordStart (v .cell)) 24)
+  -- "for 20 to 25 the first 11 bytes of the answer (or all)"
+  pub answer-head : OneOf v (20 ∷ 21 ∷ 22 ∷ 23 ∷ 24 ∷ 25 ∷ []) → v .culprit ≡ ofAnswer 0 (min 11 (length a))
+  -- "for 26, 50 and 51 that cell's answer record"
+  pub cell-place : OneOf v (26 ∷ 50 ∷ 51 ∷ []) → (v .cell < cellCount e) × (v .culprit ≡ ofAnswer (placeStart (v .cell)) 4)
+  -- "for 60 to 65 the answer record of the lowest cell in that LAB"
+  pub lab-place : OneOf v (60 ∷ 61 ∷ 62 ∷ 63 ∷ 64 ∷ 65 ∷ [])
+      → (i : ℕ) × LowestCell e a (v .lab) i × (v .culprit ≡ ofAnswer (placeStart i) 4)
 
 -- every check of a list holds
 unfoldable pub AllHold : List Check → Type 0
@@ -35,12 +65,14 @@ pub record FirstBroken (k : Check) (ks : List Check) : Type 0 where
   pub broken : k .broken ≡ true
 
 module _ (t : Table) where
-  -- DEMAND 1. "exactly one numbered verdict"; "a refusal .. leaves the route buffer untouched"; "the apprentice number comes from the answer
-  -- sheet only"
+  -- DEMAND 1. "exactly one numbered verdict"; "a refusal .. names its culprit and leaves the route buffer untouched"; "the apprentice number
+  -- comes from the answer sheet only": "0 for numbers 1 to 23, otherwise the number on the answer sheet"
   pub record Demand1 : Type 0 where
     pub one-number : (e a : List ℕ) (r : ℕ) → elemb (judged t e a r .number) numbers ≡ true
+    pub names-culprit : (e a : List ℕ) (r : ℕ) → NamesCulprit e a (judged t e a r)
     pub untouched : (e a before : List ℕ) → (judged t e a (length before) .number ≡ 0 → ⊥) → routed t e a before ≡ before
-    pub apprentice-only : (e a : List ℕ) (r : ℕ) → judged t e a r .apprentice ≡ apprenticeOf a (judged t e a r .number)
+    pub apprentice-only : (e a : List ℕ) (r : ℕ) → judged t e a r .apprentice
+        ≡ cond (elemb (judged t e a r .number) (1 ∷ 10 ∷ 11 ∷ 12 ∷ 13 ∷ 14 ∷ 15 ∷ 16 ∷ 20 ∷ 21 ∷ 22 ∷ 23 ∷ [])) 0 (apprentice a)
 
   -- DEMAND 2. "The verdict is legal exactly if every rule in document 01 holds; otherwise it is the first broken one, in 01's order"
   pub record Demand2 : Type 0 where

@@ -1,11 +1,11 @@
 -- Document 01, "Verdict numbers, in the order of checking": the checks as a list, the verdict as its first broken check, and the route buffer.
 -- `e` is the exercise, `a` the answer, `r` the route buffer's length, `t` the entry table. Assumes nothing.
-use Prim.Native.Nat.{ℕ, _+_, _*_, min}
-use mathlib.Core.Bool.{Bool, true, false, cond, not, _&&_, _||_}
+use Prim.Native.Nat.{ℕ, min}
+use mathlib.Core.Bool.{Bool, true, false, cond, not, _&&_}
 use mathlib.Core.List.{List, [], _∷_, _++_, map}
-use lib.ListN.{length, getD, take, drop}
-use lib.Dec.{eqb, ltb, leb}
-use Rattle.sheet.specs.Lists.{concatMap, filterb, anyb, below}
+use lib.ListN.{length}
+use lib.Dec.{eqb}
+use Rattle.sheet.specs.Lists.{concatMap, anyb, elemb, below}
 use Rattle.sheet.specs.Checks as sheet
 use Rattle.sheet.specs.Bytes.{partAt, beginsAt}
 use Rattle.sheet.specs.Exercise.{cellCount, exerciseChecks, recordStart}
@@ -13,14 +13,17 @@ use Rattle.sheet.specs.Answer.{apprentice, placeCount, answerChecks, wrongAnswe
 use Rattle.sheet.specs.declared.Record.{Record}
 use Rattle.sheet.specs.declared.Record.the-variants.{Combinational, Register, Malformed}
 use Rattle.route.specs.Table.{Table}
-use Rattle.lab.specs.Rules.{labRules, labChecks, routeOf}
+use Rattle.lab.specs.Rules.{labChecks, routeOf}
 use Rattle.netlist.specs.Cells.{cell, cellNumbers, malformed, doubleDriver, feeds, cellChecks}
 use Rattle.netlist.specs.Tables.{NONE}
 use Rattle.placing.specs.Places.{labAt, outOfRangeAt, placeTaken, follows}
 use Rattle.labs.specs.Members.{members}
+use Rattle.judge.specs.declared.Fault.{Fault}
+use Rattle.judge.specs.declared.Fault.the-variants as fault
 use Rattle.judge.specs.declared.Finding.{Finding}
 use Rattle.judge.specs.declared.Part.{Part}
 use Rattle.judge.specs.declared.Verdict.{Verdict}
+use Rattle.judge.specs.Numbers.{namelessNumbers, faultOf}
 
 -- what a verdict says first: the number, the cell, the LAB, NONE ("65,535") "where there is none"
 abbrev pub finding : ℕ → ℕ → ℕ → Finding
@@ -121,7 +124,7 @@ firstBroken (k ∷ ks) = let later = firstBroken ks in cond (k .broken) (k .find
 
 -- "the apprentice: 0 for numbers 1 to 23, otherwise the number on the answer sheet"
 unfoldable pub apprenticeOf : List ℕ → ℕ → ℕ
-apprenticeOf a n = cond (leb 1 n && leb n 23) 0 (apprentice a)
+apprenticeOf a n = cond (elemb n namelessNumbers) 0 (apprentice a)
 
 abbrev pub ofExercise : ℕ → ℕ → Part
 ofExercise start size = record { «of_answer» = false; start = start; size = size }
@@ -137,19 +140,23 @@ firstOr d (x ∷ xs) = x
 unfoldable pub lowestIn : List ℕ → ℕ → ℕ → ℕ
 lowestIn a n l = firstOr NONE (members a n l)
 
--- "the culprit, a part of whichever of the two lent sheets is at fault": for 0 and 1 the empty part at the answer's end; for 10 to 14 the
--- first 9 bytes of the exercise; for 15, 16 and 30 to 44 that cell's record; for 20 to 25 the first 11 bytes of the answer; for 26, 50 and 51
--- that cell's place; for 60 to 65 the place of the lowest cell in that LAB
+-- "the culprit, a part of whichever of the two lent sheets is at fault"
+abbrev pub culpritAt : List ℕ → List ℕ → Finding → Fault → Part
+-- "for 0 and 1 the empty part at the answer's end"
+culpritAt e a f fault.Call = ofAnswer (length a) 0
+-- "for 10 to 14 the first 9 bytes of the exercise (all of them if fewer)"
+culpritAt e a f fault.ExerciseHead = ofExercise 0 (min 9 (length e))
+-- "for 15, 16 and 30 to 44 that cell's exercise record"
+culpritAt e a f fault.Record = ofExercise (recordStart (f .cell)) 24
+-- "for 20 to 25 the first 11 bytes of the answer (or all)"
+culpritAt e a f fault.AnswerHead = ofAnswer 0 (min 11 (length a))
+-- "for 26, 50 and 51 that cell's answer record"
+culpritAt e a f fault.Place = ofAnswer (placeStart (f .cell)) 4
+-- "for 60 to 65 the answer record of the lowest cell in that LAB"
+culpritAt e a f fault.Lab = ofAnswer (placeStart (lowestIn a (cellCount e) (f .lab))) 4
+
 unfoldable pub culpritOf : List ℕ → List ℕ → Finding → Part
-culpritOf e a f =
-    cond (leb (f .number) 1) (ofAnswer (length a) 0)
-    (cond (leb (f .number) 14) (ofExercise 0 (min 9 (length e)))
-    (cond (leb (f .number) 16) (ofExercise (recordStart (f .cell)) 24)
-    (cond (leb (f .number) 25) (ofAnswer 0 (min 11 (length a)))
-    (cond (leb (f .number) 26) (ofAnswer (placeStart (f .cell)) 4)
-    (cond (leb (f .number) 44) (ofExercise (recordStart (f .cell)) 24)
-    (cond (leb (f .number) 51) (ofAnswer (placeStart (f .cell)) 4)
-    (ofAnswer (placeStart (lowestIn a (cellCount e) (f .lab))) 4)))))))
+culpritOf e a f = culpritAt e a f (faultOf (f .number))
 
 unfoldable pub verdictOf : List ℕ → List ℕ → Finding → Verdict
 verdictOf e a f = record {

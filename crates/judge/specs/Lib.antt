@@ -1,3 +1,4 @@
+pub mod Numbers
 pub mod Judge
 pub mod Demands
 pub mod Stages

@@ -6,7 +6,7 @@ ghost use mathlib.Core.List.{[], _∷_, _++_};
 ghost use Prim.Native.Nat.{_+_, _*_, _<_, _≤_, min};
 ghost use lib.ListN.{length};
 ghost use lib.Dec.{eqb, ltb};
-ghost use Rattle.sheet.specs.Lists.{concatMap, below};
+ghost use Rattle.sheet.specs.Lists.{concatMap, elemb, below};
 ghost use Rattle.sheet.specs.Bytes.{beginsAt};
 ghost use Rattle.sheet.specs.Exercise.{recordStart};
 ghost use Rattle.sheet.specs.Record.{knownAt};
@@ -14,12 +14,41 @@ ghost use Rattle.sheet.specs.Answer.{placeStart};
 ghost use Rattle.route.specs.Table.{houseBoard};
 ghost use Rattle.lab.specs.Rules.{routeOf};
 ghost use Rattle.judge.specs.Judge.{finding, legal, ofExercise, ofAnswer, exerciseGroup, answerGroup, cellGroup, placeGroup, labGroup, checksTo51, labCells, firstBroken, apprenticeOf, lowestIn, culpritOf, verdictOf, judged, bytesOf, addressOf, routed};
+ghost use Rattle.judge.specs.Numbers.{faultOf};
 ghost use Rattle.judge.specs.Stages.{numbered, placedBy, numbersOf};
 ghost use Rattle.netlist.specs.Tables.{NONE, numberAt};
 ghost use Rattle.labs.specs.Results.{resultAt};
 
 // The route buffer's length: eight bytes for each of 1,024 LABs.
 pub const ROUTE_SIZE: usize = 8192;
+
+// Where the fault of a number lies: in the call (or there is none), or in that part of a sheet.
+pub enum Fault {
+    Call,
+    ExerciseHead,
+    Record,
+    AnswerHead,
+    Place,
+    Lab,
+}
+
+// Of the exercise's head.
+const EXERCISE_HEAD_NUMBERS: [u8; 5] = [10, 11, 12, 13, 14];
+
+// Of a cell's record.
+const RECORD_NUMBERS: [u8; 13] = [15, 16, 30, 31, 32, 33, 34, 35, 40, 41, 42, 43, 44];
+
+// Of the answer's head.
+const ANSWER_HEAD_NUMBERS: [u8; 6] = [20, 21, 22, 23, 24, 25];
+
+// Of a cell's place.
+const PLACE_NUMBERS: [u8; 3] = [26, 50, 51];
+
+// Of a LAB.
+const LAB_NUMBERS: [u8; 6] = [60, 61, 62, 63, 64, 65];
+
+// Those that name no apprentice.
+const NAMELESS_NUMBERS: [u8; 12] = [1, 10, 11, 12, 13, 14, 15, 16, 20, 21, 22, 23];
 
 // What a stage finds: a number of document 01, or 0, with the cell and the LAB, or 65,535.
 pub struct Finding {
@@ -233,13 +262,25 @@ fn judge_labs(table: [[bool; 5]; 6], exercise: &[u8], answer: &[u8], route: &mut
     plain(0)
 }
 
+// Whether a number is in a list.
+fn is_among(number: u8, list: &[u8]) -> bool
+    ensures { λ r. ⌜ r ≡ elemb number (now (list .entry)) ⌝ }
+{
+    let mut i = 0;
+    while i < list.len() {
+        if list[i] == number {
+            return true;
+        }
+        i += 1;
+    }
+    false
+}
+
 // The apprentice: 0 for 1 to 23, else the answer sheet's.
 fn apprentice_for(answer: &[u8], number: u8) -> u32
     ensures { λ r. ⌜ r ≡ apprenticeOf (now (answer .entry)) number ⌝ }
 {
-    let some = 1 <= number;
-    let early = number <= 23;
-    if some & early {
+    if is_among(number, &NAMELESS_NUMBERS) {
         return 0;
     }
     sheet::apprentice(answer)
@@ -285,45 +326,61 @@ fn place_of(cell: CellNumber) -> Part
     }
 }
 
-// Where the culprit of a finding stands.
+// Where the fault of a number lies.
+fn fault_of(number: u8) -> Fault
+    ensures { λ r. ⌜ r ≡ faultOf number ⌝ }
+{
+    if is_among(number, &EXERCISE_HEAD_NUMBERS) {
+        return Fault::ExerciseHead;
+    }
+    if is_among(number, &RECORD_NUMBERS) {
+        return Fault::Record;
+    }
+    if is_among(number, &ANSWER_HEAD_NUMBERS) {
+        return Fault::AnswerHead;
+    }
+    if is_among(number, &PLACE_NUMBERS) {
+        return Fault::Place;
+    }
+    if is_among(number, &LAB_NUMBERS) {
+        return Fault::Lab;
+    }
+    Fault::Call
+}
+
+// The culprit of a finding, a part of the sheet at fault.
 fn culprit_of(exercise: &[u8], answer: &[u8], f: Finding) -> Part
     ensures { λ r. ⌜ r ≡ culpritOf (now (exercise .entry)) (now (answer .entry)) f ⌝ }
 {
-    let number = f.number;
-    if number <= 1 {
-        return Part {
-            of_answer: true,
-            start: answer.len(),
-            size: 0,
-        };
+    let fault = fault_of(f.number);
+    match fault {
+        Fault::Call => {
+            return Part {
+                of_answer: true,
+                start: answer.len(),
+                size: 0,
+            };
+        }
+        Fault::ExerciseHead => {
+            return Part {
+                of_answer: false,
+                start: 0,
+                size: smaller(sheet::EXERCISE_HEADER, exercise.len()),
+            };
+        }
+        Fault::Record => return record_of(CellNumber(f.cell)),
+        Fault::AnswerHead => {
+            return Part {
+                of_answer: true,
+                start: 0,
+                size: smaller(sheet::ANSWER_HEADER, answer.len()),
+            };
+        }
+        Fault::Place => return place_of(CellNumber(f.cell)),
+        Fault::Lab => {
+            return place_of(CellNumber(lowest_in(answer, sheet::cell_count(exercise), f.lab)));
+        }
     }
-    if number <= 14 {
-        return Part {
-            of_answer: false,
-            start: 0,
-            size: smaller(sheet::EXERCISE_HEADER, exercise.len()),
-        };
-    }
-    if number <= 16 {
-        return record_of(CellNumber(f.cell));
-    }
-    if number <= 25 {
-        return Part {
-            of_answer: true,
-            start: 0,
-            size: smaller(sheet::ANSWER_HEADER, answer.len()),
-        };
-    }
-    if number <= 26 {
-        return place_of(CellNumber(f.cell));
-    }
-    if number <= 44 {
-        return record_of(CellNumber(f.cell));
-    }
-    if number <= 51 {
-        return place_of(CellNumber(f.cell));
-    }
-    place_of(CellNumber(lowest_in(answer, sheet::cell_count(exercise), f.lab)))
 }
 
 // The verdict of a finding.

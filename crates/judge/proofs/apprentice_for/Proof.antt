@@ -1,6 +1,6 @@
--- The test of the number picks the case.
+-- The list of the numbers that name no apprentice picks the case.
 use Rattle.judge.specs.Judge.{apprenticeOf}
-use Rattle.sheet.proofs.Laws.{passes, stops}
+use Rattle.sheet.proofs.Laws.{chain}
 use borrow.Author.Needs.{needs}
 use Rattle.judge.proofs.apprentice_for.Statement.{statement}
 use Rattle.judge.proofs.apprentice_for.Tie as tie
@@ -10,6 +10,8 @@ unfolding apprenticeOf
 apprentice-for-spec =
     tie.close
     (tie.spec
-    (λ c. search (passes, stops))  -- returns
+    (λ c. search needs)  -- slice-aggregate-is-among
+    (λ c κs. search needs)  -- is-among-requires
+    (λ c. search chain)  -- returns
     (λ c κs. search needs)  -- apprentice-requires
-    (λ c. search (passes, stops)))  -- returns-2
+    (λ c. search chain))  -- returns-2
