@@ -139,14 +139,14 @@ module _ (e a : List ℕ) where
   answer-head-fine = found-fine (answerHead e a) (search needs)
 
   -- where the exercise has the length that its header says
-  module _ (long : length e ≡ recordStart (cellCount e)) where
+  module _ (exercise-long : length e ≡ recordStart (cellCount e)) where
     -- 15 and 16
     records-fine : Fine (firstBroken (recordRun e ++ driverRun e))
     unfolding faultOf
     records-fine =
         turn Fine (recordRun e) (driverRun e)
-        (run Fine legal-fine 15 (malformed e) (cellCount e) (λ i m. (m, long)))
-        (λ _. run Fine legal-fine 16 (doubleDriver e) (cellCount e) (λ i m. (m, long)))
+        (run Fine legal-fine 15 (malformed e) (cellCount e) (λ i m. search needs))
+        (λ _. run Fine legal-fine 16 (doubleDriver e) (cellCount e) (λ i m. search needs))
 
     -- 30 to 44
     of-kind-fine : (i : ℕ) → i < cellCount e → (c : Record) → AllFine (ofCell i (checksOf e i c))
@@ -161,63 +161,64 @@ module _ (e a : List ℕ) where
         each Fine legal-fine (λ i. ofCell i (cellChecks e i)) (cellCount e)
         (λ i m. found-fine (ofCell i (cellChecks e i)) (of-kind-fine i m (cell e i)))
 
-  -- where the answer has the length for the exercise's cells
-  module _ (long : length a ≡ placeStart (cellCount e)) where
-    -- 26
-    ranges-fine : Fine (firstBroken (rangeRun e a))
-    unfolding faultOf
-    ranges-fine = run Fine legal-fine 26 (outOfRangeAt a) (cellCount e) (λ i m. (m, long))
+    -- and the answer the length for the exercise's cells
+    module _ (answer-long : length a ≡ placeStart (cellCount e)) where
+      -- 26
+      ranges-fine : Fine (firstBroken (rangeRun e a))
+      unfolding faultOf
+      ranges-fine = run Fine legal-fine 26 (outOfRangeAt a) (cellCount e) (λ i m. search needs)
 
-    -- 50 and 51
-    places-fine : Fine (firstBroken (placeGroup e a))
-    unfolding placeGroup faultOf
-    places-fine =
-        turn Fine (perCell 50 (placeTaken e a) (cellNumbers e)) (perCell 51 (carryNotNext e a) (cellNumbers e))
-        (run Fine legal-fine 50 (placeTaken e a) (cellCount e) (λ i m. (m, long)))
-        (λ _. run Fine legal-fine 51 (carryNotNext e a) (cellCount e) (λ i m. (m, long)))
+      -- 50 and 51
+      places-fine : Fine (firstBroken (placeGroup e a))
+      unfolding placeGroup faultOf
+      places-fine =
+          turn Fine (perCell 50 (placeTaken e a) (cellNumbers e)) (perCell 51 (carryNotNext e a) (cellNumbers e))
+          (run Fine legal-fine 50 (placeTaken e a) (cellCount e) (λ i m. search needs))
+          (λ _. run Fine legal-fine 51 (carryNotNext e a) (cellCount e) (λ i m. search needs))
 
-    -- 60 to 65: a LAB with a cell, and one with none
-    rules-fine : (t : Table) (l : ℕ) → LowestCell e a l (lowestIn a (cellCount e) l) → AllFine (ofLab l (labChecks t (labCells e a l)))
-    unfolding AllFine Every faultOf
-    rules-fine t l m = search needs
+      -- 60 to 65: a LAB with a cell, and one with none
+      rules-fine : (t : Table) (l : ℕ) → LowestCell e a l (lowestIn a (cellCount e) l) → AllFine (ofLab l (labChecks t (labCells e a l)))
+      unfolding AllFine Every faultOf
+      rules-fine t l m = search needs
 
-    empty-fine : (t : Table) (l : ℕ) → members a (cellCount e) l ≡ [] → Fine (firstBroken (ofLab l (labChecks t (labCells e a l))))
-    unfolding labCells
-    empty-fine t l q = rw (q, empty-holds t l) legal-fine
+      empty-fine : (t : Table) (l : ℕ) → members a (cellCount e) l ≡ [] → Fine (firstBroken (ofLab l (labChecks t (labCells e a l))))
+      unfolding labCells
+      empty-fine t l q = rw (q, empty-holds t l) legal-fine
 
-    labs-fine : (t : Table) → Fine (firstBroken (labGroup t e a))
-    unfolding labGroup
-    labs-fine t =
-        each Fine legal-fine (λ l. ofLab l (labChecks t (labCells e a l))) 1024
-        (λ l _. ⊎-elim (λ q. empty-fine t l q) (λ m. found-fine _ (rules-fine t l m)) (lowest-cell e a l))
+      labs-fine : (t : Table) → Fine (firstBroken (labGroup t e a))
+      unfolding labGroup
+      labs-fine t =
+          each Fine legal-fine (λ l. ofLab l (labChecks t (labCells e a l))) 1024
+          (λ l _. ⊎-elim (λ q. empty-fine t l q) (λ m. found-fine _ (rules-fine t l m)) (lowest-cell e a l))
 
   -- ---- the groups in turn
-  exercise-fine : Fine (firstBroken (exerciseGroup e))
-  unfolding exerciseGroup
-  exercise-fine = turn Fine (exerciseHead e) (recordRun e ++ driverRun e) exercise-head-fine (λ h. records-fine (exercise-length e h))
-
-  answer-fine : Fine (firstBroken (answerGroup e a))
-  unfolding answerGroup
-  answer-fine = turn Fine (answerHead e a) (rangeRun e a) answer-head-fine (λ h. ranges-fine (answer-length e a h))
-
   long-exercise : AllHold (exerciseGroup e) → length e ≡ recordStart (cellCount e)
   long-exercise h = exercise-length e (exercise-parts e a h .0)
 
   long-answer : AllHold (answerGroup e a) → length a ≡ placeStart (cellCount e)
   long-answer h = answer-length e a (answer-parts e a h .0)
 
+  exercise-fine : Fine (firstBroken (exerciseGroup e))
+  unfolding exerciseGroup
+  exercise-fine = turn Fine (exerciseHead e) (recordRun e ++ driverRun e) exercise-head-fine (λ h. records-fine (exercise-length e h))
+
+  answer-fine : length e ≡ recordStart (cellCount e) → Fine (firstBroken (answerGroup e a))
+  unfolding answerGroup
+  answer-fine long = turn Fine (answerHead e a) (rangeRun e a) answer-head-fine (λ h. ranges-fine long (answer-length e a h))
+
   to-51-fine : (r : ℕ) → Fine (firstBroken (checksTo51 e a r))
   unfolding checksTo51
   to-51-fine r =
       turn Fine (roomChecks r) (exerciseGroup e ++ (answerGroup e a ++ (cellGroup e ++ placeGroup e a))) (room-fine r)
       (λ _. turn Fine (exerciseGroup e) (answerGroup e a ++ (cellGroup e ++ placeGroup e a)) exercise-fine
-      (λ x. turn Fine (answerGroup e a) (cellGroup e ++ placeGroup e a) answer-fine
-      (λ y. turn Fine (cellGroup e) (placeGroup e a) (cells-fine (long-exercise x)) (λ _. places-fine (long-answer y)))))
+      (λ x. turn Fine (answerGroup e a) (cellGroup e ++ placeGroup e a) (answer-fine (long-exercise x))
+      (λ y. turn Fine (cellGroup e) (placeGroup e a) (cells-fine (long-exercise x)) (λ _. places-fine (long-exercise x) (long-answer y)))))
 
   pub all-fine : (t : Table) (r : ℕ) → Fine (firstBroken (checks t e a r))
   unfolding checks
   all-fine t r =
-      turn Fine (checksTo51 e a r) (labGroup t e a) (to-51-fine r) (λ h. labs-fine (long-answer (held-groups e a r h .answer)) t)
+      turn Fine (checksTo51 e a r) (labGroup t e a) (to-51-fine r)
+      (λ h. let g = held-groups e a r h in labs-fine (long-exercise (g .exercise)) (long-answer (g .answer)) t)
 
   -- ---- such a finding's culprit ends where its sheet does, or before
   inside-at : (f : Finding) (k : Fault) → FineAt f k → Inside e a (culpritAt e a f k)

@@ -2,29 +2,22 @@
 -- is that of the answer sheet. Assumes nothing.
 use Prim.Native.Nat.{ℕ}
 use mathlib.Core.Path.{_≡_, refl}
-use mathlib.Core.Bool.{Bool, true, false, not}
-use mathlib.Core.List.{List, [], _∷_}
+use mathlib.Core.Bool.{true}
+use mathlib.Core.List.{List}
 use lib.ListN.{length}
-use borrow.Author.Tests.{ne-eqb, not-false}
-use Rattle.sheet.specs.Lists.{anyb, elemb}
-use Rattle.sheet.proofs.Laws.{or-parts}
+use borrow.Author.Tests.{ne-eqb}
+use Rattle.sheet.specs.Lists.{elemb}
 use Rattle.route.specs.Table.{Table}
 use Rattle.judge.specs.Numbers.{refusalNumbers}
 use Rattle.judge.specs.Judge.{apprenticeOf, checks, judged, routed, verdictOf}
 use Rattle.judge.specs.Demands.{Demand1, numbers}
-use Rattle.judge.proofs.Broken.{Every, found}
-use Rattle.judge.proofs.Numbers.{In, of-list, every-weaker, all-known}
+use Rattle.judge.proofs.Broken.{found}
+use Rattle.judge.proofs.Numbers.{In, all-give, every-weaker, all-known}
 use Rattle.judge.proofs.NamesCulprit.{names-culprit}
-
--- a test that no number of a list fails
-all-pass : (p : ℕ → Bool) (ns : List ℕ) → anyb (λ n. not (p n)) ns ≡ false → Every (λ n. p n ≡ true) ns
-unfolding Every
-all-pass p [] h = tt
-all-pass p (n ∷ ns) h = let g = or-parts (not (p n)) _ h in (not-false (p n) (g .0), all-pass p ns (g .1))
 
 -- the numbers of the checks are in the table
 in-table : (n : ℕ) → elemb n refusalNumbers ≡ true → elemb n numbers ≡ true
-in-table n m = of-list (λ n. elemb n numbers ≡ true) refusalNumbers (all-pass (λ n. elemb n numbers) refusalNumbers refl) n m
+in-table n m = all-give (λ n. elemb n numbers) true refusalNumbers refl n m
 
 one-number : (t : Table) (e a : List ℕ) (r : ℕ) → elemb (judged t e a r .number) numbers ≡ true
 unfolding judged verdictOf

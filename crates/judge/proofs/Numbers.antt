@@ -1,8 +1,9 @@
 -- The numbers of the checks are those of document 01's table: 1 to 51, then 60 to 65 of the LABs. Assumes nothing.
 use Prim.Native.Nat.{ℕ}
-use mathlib.Core.Path.{_≡_, refl, sym, _∙_}
+use mathlib.Core.Path.{_≡_, refl, sym, ap, _∙_}
 use mathlib.Core.Bool.{Bool, true, false, true≢false}
 use mathlib.Core.List.{List, [], _∷_, _++_, map}
+use lib.ListN.{length, getD, drop, replicate}
 use lib.Dec.{eqb}
 use borrow.Author.Tests.{eqb-true}
 use borrow.Author.Needs.{needs}
@@ -43,11 +44,11 @@ module _ {A : Type 0} where
     every-joined f h (x ∷ xs) = every-append Q (f x) (concatMap f xs) (h x) (every-joined f h xs)
 
 -- ---- a number in a list
--- what is true of each number of a list
-pub of-list : (P : ℕ → Type 0) (ns : List ℕ) → Every P ns → (n : ℕ) → elemb n ns ≡ true → P n
-unfolding Every
-of-list P [] h n m = absurd (true≢false (sym m))
-of-list P (x ∷ xs) h n m = by-test (eqb n x) (λ q. rw (eqb-true n x q) (h .0)) (λ q. of-list P xs (h .1) n (rw q at m))
+-- where f gives the same for all numbers of a list, it gives that for each
+pub all-give : {A : Type 0} (f : ℕ → A) (k : A) (ns : List ℕ) → map f ns ≡ replicate (length ns) k → (n : ℕ) → elemb n ns ≡ true → f n ≡ k
+all-give f k [] h n m = absurd (true≢false (sym m))
+all-give f k (x ∷ xs) h n m =
+    by-test (eqb n x) (λ q. rw (eqb-true n x q) (ap (λ ks. getD ks 0 k) h)) (λ q. all-give f k xs (ap (drop 1) h) n (rw q at m))
 
 pub elem-more : (s : ℕ) (xs ys : List ℕ) → elemb s xs ≡ true → elemb s (xs ++ ys) ≡ true
 elem-more s [] ys m = absurd (true≢false (sym m))
