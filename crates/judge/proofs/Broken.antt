@@ -1,7 +1,7 @@
 -- What the first broken check of a list finds: of two lists in turn, of a whole sheet, of one check for each cell, and of the checks of
 -- each cell or LAB in turn. Assumes nothing.
 use Prim.Native.Nat.{ℕ, zero, suc, _+_}
-use mathlib.Core.Path.{_≡_, refl, _∙_}
+use mathlib.Core.Path.{_≡_, refl, ap, _∙_}
 use mathlib.Core.Bool.{Bool, false, cond, not}
 use mathlib.Core.List.{List, [], _∷_, _++_, map}
 use native.Mathlib.Omega.{arith}
@@ -82,6 +82,10 @@ held n (k ∷ ks) h = by-test (eqb n (k .finding .number)) (λ q. rw (q, h .0)) 
 pub sheet-finds : (ks : List sheet.Check) → firstBroken (ofSheet ks) ≡ finding (sheet.firstNumber ks) NONE NONE
 sheet-finds [] = refl
 sheet-finds (k ∷ ks) = by-test (k .broken) (λ b. rw b) (λ b. rw b (sheet-finds ks))
+
+-- the same of a sheet's checks that give no number
+pub held-number : (n : ℕ) (ks : List sheet.Check) → Numbered (ofSheet ks) → sheet.firstNumber ks ≡ 0 → brokenOf n (ofSheet ks) ≡ false
+held-number n ks d h = held n (ofSheet ks) (legal-hold (ofSheet ks) d (ap (λ (f : Finding). f .number) (sheet-finds ks) ∙ h))
 
 -- ---- cells and LABs in turn
 -- a search through the k numbers from i on that finds q at the first one where f holds

@@ -22,7 +22,7 @@ use Rattle.route.specs.Way.{isWay, entryLists, ways, earliestWay}
 use Rattle.lab.specs.Ports.{inLab, netsIn}
 use Rattle.lab.specs.Rules.{tooManyClocks, tooManyPairs, tooManyClears, tooManySynchronous, tooManyNets, noWay, labChecks}
 use Rattle.lab.specs.Rules as rules
-use Rattle.netlist.specs.Cells.{cell, cellNumbers, malformed, doubleDriver, checksOf, cellChecks}
+use Rattle.netlist.specs.Cells.{cell, malformed, doubleDriver, checksOf, cellChecks}
 use Rattle.placing.specs.Places.{labAt, outOfRangeAt, placeTaken}
 use Rattle.labs.specs.Members.{members}
 use Rattle.netlist.specs.Tables.{NONE}
@@ -36,7 +36,8 @@ use Rattle.judge.specs.Demands.{AllHold, LowestCell}
 use Rattle.judge.specs.Culprit.{Inside, CulpritLaw}
 use Rattle.judge.proofs.Broken.{Every, found, run-finds}
 use Rattle.judge.proofs.Held.{held-groups}
-use Rattle.judge.proofs.Kept.{exerciseHead, recordRun, driverRun, answerHead, rangeRun, exercise-length, answer-length, exercise-parts, answer-parts}
+use Rattle.judge.proofs.Groups.{exerciseHead, recordRun, driverRun, answerHead, rangeRun, sharedRun, carryRun}
+use Rattle.judge.proofs.Kept.{exercise-length, answer-length, exercise-parts, answer-parts}
 
 -- ---- what is true of the first broken check
 module _ (P : Finding → Type 0) where
@@ -172,7 +173,7 @@ module _ (e a : List ℕ) where
       places-fine : Fine (firstBroken (placeGroup e a))
       unfolding placeGroup faultOf
       places-fine =
-          turn Fine (perCell 50 (placeTaken e a) (cellNumbers e)) (perCell 51 (carryNotNext e a) (cellNumbers e))
+          turn Fine (sharedRun e a) (carryRun e a)
           (run Fine legal-fine 50 (placeTaken e a) (cellCount e) (λ i m. search needs))
           (λ _. run Fine legal-fine 51 (carryNotNext e a) (cellCount e) (λ i m. search needs))
 

@@ -1,11 +1,12 @@
 -- A cell that keeps 30 to 44, of an exercise with at most 1,024 nets, is fit for a LAB: its signals are small, and an enable has a clock.
 -- Where every cell is such a cell, the cells of each LAB are fit. Assumes nothing.
 use Prim.Native.Nat.{ℕ, zero, suc, _+_, _≤_, _<_}
-use mathlib.Core.Path.{_≡_, refl}
-use mathlib.Core.Bool.{Bool, true, false, cond}
+use mathlib.Core.Path.{_≡_}
+use mathlib.Core.Bool.{Bool, true, false}
 use mathlib.Core.List.{List, [], _∷_, map}
 use native.Mathlib.Omega.{arith}
 use lib.Dec.{eqb}
+use borrow.Author.Needs.{needs}
 use borrow.Author.Tests.{eqb-true, leb-false, not-false}
 use Rattle.sheet.specs.Lists.{filterb, elemb, from}
 use Rattle.sheet.specs.Checks.{firstNumber}
@@ -18,10 +19,11 @@ use Rattle.sheet.specs.declared.Record.the-variants.{Combinational, Register, M
 use Rattle.sheet.proofs.Laws.{by-test}
 use Rattle.lab.specs.Ports.{clk, ena, inputs}
 use Rattle.lab.specs.Counts.{Fit, AllFit}
-use Rattle.netlist.specs.Cells.{cell, allInputs, clockWithoutOutput, clearWithoutClock, loadWithoutClock, loadWithoutData, enableWithoutClock, registerChecks, cellChecks}
+use Rattle.netlist.specs.Cells.{cell, allInputs, registerChecks, cellChecks}
 use Rattle.placing.specs.Places.{labAt}
 use Rattle.labs.specs.Members.{members}
 use Rattle.judge.specs.Judge.{labCells}
+use Rattle.judge.proofs.Broken.{Every, held-number}
 use Rattle.judge.proofs.Numbers.{elem-more}
 use Rattle.netlist.proofs.Decoded.{inputs-good, outputs-good, good-net, good-output}
 
@@ -42,17 +44,9 @@ input-of-all s (Register r) m = m
 input-of-all s Malformed m = m
 
 -- ---- 34
-passed : (b : Bool) (n later : ℕ) → cond b (suc n) later ≡ 0 → (b ≡ false) × (later ≡ 0)
-passed true n later h = absurd (omega arith)
-passed false n later h = (refl, h)
-
 pub enable-clocked : (r : RegisterCell) → firstNumber (registerChecks r) ≡ 0 → connected (ena r) ≡ true → connected (clk r) ≡ true
-enable-clocked r h on =
-    let after30 = passed (clockWithoutOutput r) 29 _ h .1 in
-    let after31 = passed (clearWithoutClock r) 30 _ after30 .1 in
-    let after32 = passed (loadWithoutClock r) 31 _ after31 .1 in
-    let after33 = passed (loadWithoutData r) 32 _ after32 .1 in
-    not-false (connected (clk r)) (rw on at (passed (enableWithoutClock r) 33 _ after33 .0))
+unfolding Every
+enable-clocked r h on = not-false (connected (clk r)) (rw on at (held-number 34 (registerChecks r) (search needs) h))
 
 -- ---- cells
 pub cell-fit : (e : List ℕ) (i : ℕ) → netCount e ≤ 1024 → firstNumber (cellChecks e i) ≡ 0 → Fit (cell e i)

@@ -4,7 +4,7 @@ use Prim.Native.Nat.{ℕ}
 use native.Mathlib.Omega.{arith}
 use mathlib.Core.Path.{_≡_, refl, _∙_}
 use mathlib.Core.Bool.{cond, not}
-use mathlib.Core.List.{List, _∷_, _++_}
+use mathlib.Core.List.{List, [], _∷_, _++_}
 use lib.Dec.{eqb, ltb}
 use borrow.Author.Tests.{ne-eqb}
 use Rattle.sheet.specs.Lists.{firstFrom}
@@ -22,6 +22,28 @@ use borrow.Author.Needs.{needs}
 use Rattle.judge.proofs.Broken.{Every, first-append, sheet-finds, run-finds, cells-find}
 use Rattle.judge.proofs.Numbers.{To51, known-numbered, every-append, run-known, exercise-known, answer-known, cells-known, cell-numbered}
 
+-- ---- the parts of the groups: 10 to 14; 15; 16; 20 to 25; 26; 50; 51
+abbrev pub exerciseHead : List ℕ → List Check
+exerciseHead e = ofSheet (exerciseChecks e)
+
+abbrev pub recordRun : List ℕ → List Check
+recordRun e = perCell 15 (malformed e) (cellNumbers e)
+
+abbrev pub driverRun : List ℕ → List Check
+driverRun e = perCell 16 (doubleDriver e) (cellNumbers e)
+
+abbrev pub answerHead : List ℕ → List ℕ → List Check
+answerHead e a = ofSheet (answerChecks a) ++ (check 24 (not (eqb (placeCount a) (cellCount e))) ∷ check 25 (wrongAnswerLength a) ∷ [])
+
+abbrev pub rangeRun : List ℕ → List ℕ → List Check
+rangeRun e a = perCell 26 (outOfRangeAt a) (cellNumbers e)
+
+abbrev pub sharedRun : List ℕ → List ℕ → List Check
+sharedRun e a = perCell 50 (placeTaken e a) (cellNumbers e)
+
+abbrev pub carryRun : List ℕ → List ℕ → List Check
+carryRun e a = perCell 51 (carryNotNext e a) (cellNumbers e)
+
 -- one finding, and the next one where it is nothing
 abbrev pub then : Finding → Finding → Finding
 then f g = cond (eqb (f .number) 0) g f
@@ -30,17 +52,17 @@ then f g = cond (eqb (f .number) 0) g f
 in-turn : (xs ys : List Check) → Every To51 xs → firstBroken (xs ++ ys) ≡ then (firstBroken xs) (firstBroken ys)
 in-turn xs ys h = first-append xs ys (known-numbered numbersTo51 refl xs h)
 
-run-15 : (e : List ℕ) → Every To51 (perCell 15 (malformed e) (cellNumbers e))
+run-15 : (e : List ℕ) → Every To51 (recordRun e)
 run-15 e = run-known 15 (search needs) (malformed e) (cellNumbers e)
 
-run-50 : (e a : List ℕ) → Every To51 (perCell 50 (placeTaken e a) (cellNumbers e))
+run-50 : (e a : List ℕ) → Every To51 (sharedRun e a)
 run-50 e a = run-known 50 (search needs) (placeTaken e a) (cellNumbers e)
 
 group-known : (e : List ℕ) → Every To51 (exerciseGroup e)
 unfolding exerciseGroup
 group-known e =
-    every-append To51 (ofSheet (exerciseChecks e)) (perCell 15 (malformed e) (cellNumbers e) ++ perCell 16 (doubleDriver e) (cellNumbers e)) (exercise-known e)
-    (every-append To51 (perCell 15 (malformed e) (cellNumbers e)) (perCell 16 (doubleDriver e) (cellNumbers e)) (run-15 e) (run-known 16 (search needs) (doubleDriver e) (cellNumbers e)))
+    every-append To51 (exerciseHead e) (recordRun e ++ driverRun e) (exercise-known e)
+    (every-append To51 (recordRun e) (driverRun e) (run-15 e) (run-known 16 (search needs) (doubleDriver e) (cellNumbers e)))
 
 -- a run that stopped before the end has found something
 pub run-then : (n : ℕ) (i k : ℕ) (g : Finding) → (n ≡ 0 → ⊥) → then (atCell n i k) g ≡ cond (ltb i k) (finding n i NONE) g
@@ -53,8 +75,8 @@ pub exercise-finds : (e : List ℕ) → firstBroken (exerciseGroup e)
     (atCell 16 (firstFrom (doubleDriver e) 0 (cellCount e)) (cellCount e)))
 unfolding exerciseGroup exerciseNumber Every
 exercise-finds e =
-    in-turn (ofSheet (exerciseChecks e)) (perCell 15 (malformed e) (cellNumbers e) ++ perCell 16 (doubleDriver e) (cellNumbers e)) (exercise-known e)
-    ∙ rw (sheet-finds (exerciseChecks e), in-turn (perCell 15 (malformed e) (cellNumbers e)) (perCell 16 (doubleDriver e) (cellNumbers e)) (run-15 e), run-finds 15 (malformed e) (cellCount e), run-finds 16 (doubleDriver e) (cellCount e), run-then 15 (firstFrom (malformed e) 0 (cellCount e)) (cellCount e) (atCell 16 (firstFrom (doubleDriver e) 0 (cellCount e)) (cellCount e)) (λ z. omega arith))
+    in-turn (exerciseHead e) (recordRun e ++ driverRun e) (exercise-known e)
+    ∙ rw (sheet-finds (exerciseChecks e), in-turn (recordRun e) (driverRun e) (run-15 e), run-finds 15 (malformed e) (cellCount e), run-finds 16 (doubleDriver e) (cellCount e), run-then 15 (firstFrom (malformed e) 0 (cellCount e)) (cellCount e) (atCell 16 (firstFrom (doubleDriver e) 0 (cellCount e)) (cellCount e)) (λ z. omega arith))
 
 sheet-known : (a : List ℕ) → Every To51 (ofSheet (answerChecks a))
 unfolding Every
@@ -68,7 +90,7 @@ pub answer-finds : (e a : List ℕ) → firstBroken (answerGroup e a)
     (atCell 26 (firstFrom (outOfRangeAt a) 0 (cellCount e)) (cellCount e))))
 unfolding answerGroup answerNumber Every
 answer-finds e a =
-    in-turn (ofSheet (answerChecks a)) (check 24 (not (eqb (placeCount a) (cellCount e))) ∷ check 25 (wrongAnswerLength a) ∷ perCell 26 (outOfRangeAt a) (cellNumbers e)) (sheet-known a)
+    in-turn (ofSheet (answerChecks a)) (check 24 (not (eqb (placeCount a) (cellCount e))) ∷ check 25 (wrongAnswerLength a) ∷ rangeRun e a) (sheet-known a)
     ∙ rw (sheet-finds (answerChecks a), run-finds 26 (outOfRangeAt a) (cellCount e))
 
 -- 30 to 44
@@ -84,7 +106,7 @@ pub places-finds : (e a : List ℕ) → firstBroken (placeGroup e a)
     (atCell 51 (firstFrom (carryNotNext e a) 0 (cellCount e)) (cellCount e))
 unfolding placeGroup
 places-finds e a =
-    in-turn (perCell 50 (placeTaken e a) (cellNumbers e)) (perCell 51 (carryNotNext e a) (cellNumbers e)) (run-50 e a)
+    in-turn (sharedRun e a) (carryRun e a) (run-50 e a)
     ∙ rw (run-finds 50 (placeTaken e a) (cellCount e), run-finds 51 (carryNotNext e a) (cellCount e), run-then 50 (firstFrom (placeTaken e a) 0 (cellCount e)) (cellCount e) (atCell 51 (firstFrom (carryNotNext e a) 0 (cellCount e)) (cellCount e)) (λ z. omega arith))
 
 -- 30 to 51

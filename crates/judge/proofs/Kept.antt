@@ -2,39 +2,24 @@
 -- kind share, and cells that keep 30 to 44. Assumes nothing.
 use Prim.Native.Nat.{ℕ, _≤_, _<_}
 use mathlib.Core.Path.{_≡_, _∙_}
-use mathlib.Core.Bool.{false, not}
-use mathlib.Core.List.{List, [], _∷_, _++_}
+use mathlib.Core.Bool.{false}
+use mathlib.Core.List.{List, _++_}
 use native.Mathlib.Omega.{arith}
 use lib.ListN.{length}
-use lib.Dec.{eqb, ltb}
+use lib.Dec.{ltb}
 use borrow.Author.Tests.{eqb-true, ltb-false, not-false}
 use Rattle.sheet.specs.Checks.{firstNumber}
-use Rattle.sheet.specs.Exercise.{netCount, cellCount, recordStart, overLimit, exerciseChecks, wrongExerciseLength}
-use Rattle.sheet.specs.Answer.{placeCount, placeStart, answerChecks, wrongAnswerLength}
+use Rattle.sheet.specs.Exercise.{netCount, cellCount, recordStart, overLimit, wrongExerciseLength}
+use Rattle.sheet.specs.Answer.{placeCount, placeStart, wrongAnswerLength}
 use Rattle.sheet.specs.Record.{isMalformed}
 use Rattle.sheet.proofs.Laws.{or-parts}
-use Rattle.netlist.specs.Cells.{cell, cellNumbers, malformed, doubleDriver, cellChecks}
+use Rattle.netlist.specs.Cells.{cell, malformed, cellChecks}
 use Rattle.placing.specs.Places.{outOfRangeAt, placeTaken}
-use Rattle.judge.specs.Judge.{Check, check, ofSheet, perCell, ofCell, carryNotNext, exerciseGroup, answerGroup, cellGroup, placeGroup, checksTo51}
+use Rattle.judge.specs.Judge.{ofCell, exerciseGroup, answerGroup, cellGroup, placeGroup, checksTo51}
 use Rattle.judge.specs.Demands.{AllHold}
 use Rattle.judge.proofs.Broken.{held, hold-append}
+use Rattle.judge.proofs.Groups.{exerciseHead, recordRun, driverRun, answerHead, rangeRun, sharedRun, carryRun}
 use Rattle.judge.proofs.Held.{hold-each, hold-run, hold-number, HeldGroups, held-groups}
-
--- ---- the parts of the groups: 10 to 14; 15; 16; 20 to 25; 26
-abbrev pub exerciseHead : List ℕ → List Check
-exerciseHead e = ofSheet (exerciseChecks e)
-
-abbrev pub recordRun : List ℕ → List Check
-recordRun e = perCell 15 (malformed e) (cellNumbers e)
-
-abbrev pub driverRun : List ℕ → List Check
-driverRun e = perCell 16 (doubleDriver e) (cellNumbers e)
-
-abbrev pub answerHead : List ℕ → List ℕ → List Check
-answerHead e a = ofSheet (answerChecks a) ++ (check 24 (not (eqb (placeCount a) (cellCount e))) ∷ check 25 (wrongAnswerLength a) ∷ [])
-
-abbrev pub rangeRun : List ℕ → List ℕ → List Check
-rangeRun e a = perCell 26 (outOfRangeAt a) (cellNumbers e)
 
 -- ---- the lengths of the sheets
 -- 14
@@ -94,7 +79,7 @@ module _ (e a : List ℕ) (r : ℕ) (holds : AllHold (checksTo51 e a r)) where
   places-free : (i : ℕ) → i < cellCount e → placeTaken e a i ≡ false
   unfolding placeGroup
   places-free i l =
-      let h = hold-append (perCell 50 (placeTaken e a) (cellNumbers e)) (perCell 51 (carryNotNext e a) (cellNumbers e)) (groups .places) in
+      let h = hold-append (sharedRun e a) (carryRun e a) (groups .places) in
       hold-run 50 (placeTaken e a) (cellCount e) 0 i (h .0) (omega arith) (omega arith)
 
   pub all-kept : Kept e a

@@ -3,15 +3,13 @@ use Prim.Native.Nat.{ℕ, _≤_, _<_}
 use native.Mathlib.Omega.{arith}
 use mathlib.Core.Path.{_≡_, refl, sym, _∙_}
 use mathlib.Core.Bool.{false, cond, not, _&&_, and-assoc}
-use mathlib.Core.List.{List, [], _∷_}
-use lib.ListN.{length, replicate}
+use mathlib.Core.List.{List}
+use lib.ListN.{replicate}
 use lib.Dec.{eqb, ltb}
 use borrow.Author.Tests.{ltb-false, eqb-true, eq-eqb}
 use Rattle.sheet.specs.Lists.{firstFrom}
 use Rattle.sheet.specs.Signal.{isNet, isInverted}
-use Rattle.sheet.specs.Checks as sheet
-use Rattle.sheet.specs.Checks.{check, firstNumber}
-use Rattle.sheet.specs.Exercise.{netCount, cellCount, wrongMark, wrongVersion, overLimit, wrongExerciseLength, exerciseNumber}
+use Rattle.sheet.specs.Exercise.{netCount, cellCount, overLimit, exerciseChecks, exerciseNumber}
 use Rattle.sheet.specs.declared.Record.{Record}
 use Rattle.sheet.specs.declared.Record.the-variants.{Combinational, Register, Malformed}
 use Rattle.sheet.proofs.Laws.{by-test, or-parts}
@@ -23,9 +21,12 @@ use Rattle.netlist.proofs.Same.{reads-same, readers-same, drivers-same}
 use Rattle.netlist.proofs.Carry.{fed-by, number-is, reads, readers, drivers}
 use Rattle.placing.specs.Places.{follows, detachedBy, detachedAt}
 use Rattle.judge.specs.declared.Finding.{Finding}
-use Rattle.judge.specs.Judge.{finding, legal, standsApart, carryNotNext, exerciseGroup, cellGroup, placeGroup, firstBroken}
+use Rattle.judge.specs.Judge.{finding, legal, ofSheet, standsApart, carryNotNext, exerciseGroup, cellGroup, placeGroup, firstBroken}
+use Rattle.judge.specs.Numbers.{numbersTo51}
 use Rattle.judge.specs.Stages.{numbered, atCell, placedBy}
 use Rattle.sheet.proofs.First.{first-below, none-below}
+use Rattle.judge.proofs.Broken.{held-number}
+use Rattle.judge.proofs.Numbers.{known-numbered, exercise-known}
 use Rattle.judge.proofs.Numbering.{numbered-same}
 use Rattle.judge.proofs.Groups.{then, exercise-finds, cells-finds, places-finds}
 
@@ -88,23 +89,12 @@ then-second f g h = let z = then-first f g h in rw (eq-eqb (f .number) 0 z) at h
 run-passed : (n i k : ℕ) (g : Finding) → (n ≡ 0 → ⊥) → cond (ltb i k) (finding n i NONE) g .number ≡ 0 → (ltb i k ≡ false) × (g .number ≡ 0)
 run-passed n i k g d h = by-test (ltb i k) (λ t. absurd (d (rw t at h))) (λ t. (t, rw t at h))
 
-first-skips : (k : sheet.Check) (ks : List sheet.Check) → (k .number ≡ 0 → ⊥) → firstNumber (k ∷ ks) ≡ 0 → (k .broken ≡ false) × (firstNumber ks ≡ 0)
-first-skips k ks d h = by-test (k .broken) (λ t. absurd (d (rw t at h))) (λ t. (t, rw t at h))
-
 -- 13 holds
 pub limits : (e : List ℕ) → exerciseNumber e ≡ 0 → (netCount e ≤ 1024) × (cellCount e ≤ 512)
 unfolding exerciseNumber overLimit
 limits e h =
-    let k10 = check 10 (ltb (length e) 9) in
-    let k11 = check 11 (wrongMark 69 e) in
-    let k12 = check 12 (wrongVersion e) in
-    let k13 = check 13 (overLimit e) in
-    let k14 = check 14 (wrongExerciseLength e) in
-    let s1 = first-skips k10 (k11 ∷ k12 ∷ k13 ∷ k14 ∷ []) (λ z. omega arith) h in
-    let s2 = first-skips k11 (k12 ∷ k13 ∷ k14 ∷ []) (λ z. omega arith) (s1 .1) in
-    let s3 = first-skips k12 (k13 ∷ k14 ∷ []) (λ z. omega arith) (s2 .1) in
-    let s4 = first-skips k13 (k14 ∷ []) (λ z. omega arith) (s3 .1) in
-    let p = or-parts (ltb 1024 (netCount e)) (ltb 512 (cellCount e)) (s4 .0) in
+    let numbered = known-numbered numbersTo51 refl (ofSheet (exerciseChecks e)) (exercise-known e) in
+    let p = or-parts (ltb 1024 (netCount e)) (ltb 512 (cellCount e)) (held-number 13 (exerciseChecks e) numbered h) in
     (ltb-false 1024 (netCount e) (p .0), ltb-false 512 (cellCount e) (p .1))
 
 pub number-passed : (e : List ℕ) → firstBroken (exerciseGroup e) .number ≡ 0 → exerciseNumber e ≡ 0
