@@ -2,9 +2,9 @@
 use Prim.Native.Nat.{ℕ, zero, suc, _+_, _<_}
 use native.Mathlib.Omega.{arith}
 use mathlib.Core.Path.{_≡_, refl, sym, ap, _∙_}
-use mathlib.Core.Bool.{Bool}
+use mathlib.Core.Bool.{Bool, false}
 use mathlib.Core.List.{List, map}
-use lib.ListN.{length, replicate}
+use lib.ListN.{length, getD, replicate}
 use lib.Dec.{eqb}
 use borrow.Author.Tests.{eq-eqb}
 use Rattle.sheet.specs.Lists.{concatMap, filterb, from, below}
@@ -19,9 +19,10 @@ use Rattle.lab.specs.declared.LabResult.{LabResult}
 use Rattle.netlist.specs.Cells.{cell}
 use Rattle.placing.specs.Places.{labAt}
 use Rattle.labs.specs.Members.{Links, members, linkBelow}
-use Rattle.labs.specs.Results.{resultAt, putRows}
+use Rattle.labs.specs.Results.{resultAt, occupied, putRows}
 use Rattle.labs.proofs.Linked.{walk-members}
 use Rattle.labs.proofs.Labs.{result-is-lab}
+use Rattle.labs.proofs.Passing.{none-in}
 use Rattle.labs.proofs.Rows.{rows-put, bytes-eight}
 use Rattle.netlist.specs.Tables.{NONE}
 use Rattle.judge.specs.Judge.{finding, labCells, labGroup, firstBroken}
@@ -82,7 +83,15 @@ module _ (t : Table) (e a : List ℕ) (s : Sound e) (fits : (l : ℕ) → AllFit
     unfolding resultAt
     eight l = bytes-eight t (knownAt e) _
 
-    pub routes-are : (rows : List ℕ) → length rows ≡ 8192 → putRows (λ l. resultOfLab l .bytes) rows 1024 ≡ concatMap (λ l. routeOf t (labCells e a l)) (below 1024)
-    routes-are rows z =
-        rows-put (λ l. resultOfLab l .bytes) rows 1024 z (λ l h. eight l)
+    -- a LAB without cells has eight 255s
+    abbrev inUse : ℕ → Bool
+    inUse = occupied (linked a (cellCount e) .first) (linked a (cellCount e) .next)
+
+    none-routed : (l : ℕ) → inUse l ≡ false → resultOfLab l .bytes ≡ replicate 8 255
+    none-routed l h = ap (λ (r : LabResult). r .bytes) (none-in t (knownAt e) (linked a (cellCount e) .first) (linked a (cellCount e) .next) l h)
+
+    pub routes-are : (rows : List ℕ) → ((j : ℕ) → j < length rows → getD rows j 0 ≡ 255) → length rows ≡ 8192
+        → putRows inUse (λ l. resultOfLab l .bytes) rows 1024 ≡ concatMap (λ l. routeOf t (labCells e a l)) (below 1024)
+    routes-are rows blank z =
+        rows-put inUse (λ l. resultOfLab l .bytes) rows blank 1024 z (λ l h. none-routed l) (λ l h. eight l)
         ∙ rows-same (λ l. resultOfLab l .bytes) (λ l. routeOf t (labCells e a l)) 0 1024 (λ l h. bytes-are l (omega arith))

@@ -5,7 +5,7 @@ use native.Mathlib.Omega.{arith}
 use mathlib.Core.Path.{_≡_, refl, sym, ap, _∙_}
 use mathlib.Core.Bool.{Bool, true, false, cond, not}
 use mathlib.Core.List.{List, [], _∷_, _++_}
-use lib.ListN.{length, getD, drop, replicate, length-replicate}
+use lib.ListN.{length, getD, drop, replicate, length-replicate, getD-replicate}
 use lib.Seq.{drop-cons, drop-length}
 use lib.Dec.{eqb, ltb}
 use borrow.Author.Tests.{eq-eqb, ne-eqb, eqb-true, eqb-false, not-true, lt-ltb, le-ltb}
@@ -22,7 +22,9 @@ use Rattle.netlist.specs.Tables.{NONE, malformedAt, doubleFrom, readsBelow, rea
 use Rattle.netlist.proofs.Double.{double-is}
 use Rattle.placing.specs.Places.{labAt, outOfRangeAt, placeTaken, detachedAt}
 use Rattle.labs.specs.Members.{members}
-use Rattle.labs.specs.Results.{resultAt, brokenLab, putRows}
+use Rattle.labs.specs.Results.{resultAt, brokenLab, lowestBroken, occupied, putRows}
+use Rattle.labs.specs.declared.LowestBroken.{LowestBroken}
+use Rattle.labs.proofs.Passing.{lowest-lab, lowest-number}
 use Rattle.labs.proofs.Rows.{rows-long}
 use Rattle.sheet.specs.Record.{knownAt}
 use Rattle.sheet.specs.declared.Record.{Record}
@@ -133,27 +135,30 @@ module _ (reads readers drivers : List ℕ) (get : ℕ → Record) (cells i : �
 pub ruleset cell-steps = (cell-broken, cells-kept)
 
 -- ---- 60 to 65, from the lists
-module _ (t : Table) (get : ℕ → Record) (first next : List ℕ) (l : ℕ) (at : l ≡ firstFrom (brokenLab t get first next) 0 1024) where
+module _ (t : Table) (get : ℕ → Record) (first next : List ℕ) (l : LowestBroken) (found : l ≡ lowestBroken t get first next) where
   abbrev numberOf : ℕ → ℕ
   numberOf k = resultAt t get first next k .number
 
-  lab-broken : {r : Finding} → l < 1024 → r ≡ finding (numberOf l) NONE l → r ≡ numberedLab numberOf
-  unfolding brokenLab
-  lab-broken h a = a ∙ lab-stops numberOf l (numberOf l) at h refl
+  at : l .lab ≡ firstFrom (brokenLab t get first next) 0 1024
+  at = lowest-lab t get first next l found
 
-  lab-refused : l < 1024 → numberOf l ≡ 0 → ⊥
+  lab-broken : {r : Finding} → l .lab < 1024 → r ≡ finding (l .number) NONE (l .lab) → r ≡ numberedLab numberOf
   unfolding brokenLab
-  lab-refused h =
+  lab-broken h a = a ∙ lab-stops numberOf (l .lab) (l .number) at h (lowest-number t get first next l found h)
+
+  lab-refused : l .lab < 1024 → l .number ≡ 0 → ⊥
+  unfolding brokenLab
+  lab-refused h z =
       let broken = brokenLab t get first next in
-      let found : broken l ≡ true = ap broken at ∙ some-below broken 1024 (ap (λ (k : ℕ). ltb k 1024) (sym at) ∙ lt-ltb l 1024 h) in
-      eqb-false (numberOf l) 0 (not-true _ found)
+      let some : broken (l .lab) ≡ true = ap broken at ∙ some-below broken 1024 (ap (λ (k : ℕ). ltb k 1024) (sym at) ∙ lt-ltb (l .lab) 1024 h) in
+      eqb-false (numberOf (l .lab)) 0 (not-true _ some) (sym (lowest-number t get first next l found h) ∙ z)
 
-  labs-kept : {r : Finding} → 1024 ≤ l → r ≡ legal → r ≡ numberedLab numberOf
+  labs-kept : {r : Finding} → 1024 ≤ l .lab → r ≡ legal → r ≡ numberedLab numberOf
   unfolding brokenLab
-  labs-kept h a = lab-ends numberOf l at h a
+  labs-kept h a = lab-ends numberOf (l .lab) at h a
 
-  labs-all : 1024 ≤ l → l ≡ 1024
-  labs-all h = omega (arith, first-most (brokenLab t get first next) 0 1024)
+  labs-all : 1024 ≤ l .lab → l .lab ≡ 1024
+  labs-all h = omega (arith, at, first-most (brokenLab t get first next) 0 1024)
 
 -- ---- 50 and 51
 module _ (drivers e a : List ℕ) (get : ℕ → Record) (cells i : ℕ) (at : i ≡ firstFrom (placeTaken e a) 0 cells) where
@@ -281,8 +286,11 @@ blank = replicate 8192 255
 blank-size : length blank ≡ 8192
 blank-size = length-replicate {A = ℕ} 8192 255
 
-pub rows-size : (g : ℕ → List ℕ) (rows : List ℕ) (l : ℕ) → rows ≡ putRows g blank l → 8192 ≡ length rows
-rows-size g rows l p = sym (rw p (rows-long g blank l ∙ blank-size))
+blank-bytes : (j : ℕ) → j < length blank → getD blank j 0 ≡ 255
+blank-bytes j h = getD-replicate 8192 j 255 0 (omega (arith, blank-size))
+
+pub rows-size : (some : ℕ → Bool) (g : ℕ → List ℕ) (rows : List ℕ) (l : ℕ) → rows ≡ putRows some g blank l → 8192 ≡ length rows
+rows-size some g rows l p = sym (rw p (rows-long some g blank l ∙ blank-size))
 
 -- ---- 60 to 65, of sheets that pass 1 to 51
 module _ (t : Table) (e a : List ℕ) (room : ℕ) (passed : firstBroken (checksTo51 e a room) .number ≡ 0) where
@@ -312,24 +320,25 @@ module _ (t : Table) (e a : List ℕ) (room : ℕ) (passed : firstBroken (checks
 
   module _ (cells : ℕ) (first next : List ℕ) (c : cells ≡ cellCount e)
       (x : first ≡ linked a cells .first) (y : next ≡ linked a cells .next)
-      (l : ℕ) (at : l ≡ firstFrom (brokenLab t (knownAt e) first next) 0 1024) (f : Finding) where
+      (l : LowestBroken) (found : l ≡ lowestBroken t (knownAt e) first next) (f : Finding) where
     lab-group : f ≡ numberedLab (λ k. resultAt t (knownAt e) first next k .number) → f ≡ firstBroken (labGroup t e a)
-    lab-group found = found ∙ rw (x, y, c) (labs-are t e a sound fits)
+    lab-group q = q ∙ rw (x, y, c) (labs-are t e a sound fits)
 
-    pub labs-stop : (before : List ℕ) → l < 1024 → f ≡ finding (resultAt t (knownAt e) first next l .number) NONE l
+    pub labs-stop : (before : List ℕ) → l .lab < 1024 → f ≡ finding (l .number) NONE (l .lab)
         → (f ≡ firstBroken (labGroup t e a)) × (before ≡ cond (eqb (f .number) 0) (concatMap (λ k. routeOf t (labCells e a k)) (below 1024)) before)
     labs-stop before h q =
-        let some : f .number ≡ 0 → ⊥ = λ z. lab-refused t (knownAt e) first next l at h (ap (λ (z : Finding). z .number) (sym q) ∙ z) in
-        (lab-group (lab-broken t (knownAt e) first next l at h q), rw (ne-eqb (f .number) 0 some))
+        let some : f .number ≡ 0 → ⊥ = λ z. lab-refused t (knownAt e) first next l found h (ap (λ (z : Finding). z .number) (sym q) ∙ z) in
+        (lab-group (lab-broken t (knownAt e) first next l found h q), rw (ne-eqb (f .number) 0 some))
 
-    pub labs-go : (before after rows : List ℕ) → 1024 ≤ l → f ≡ legal
-        → rows ≡ putRows (λ k. resultAt t (knownAt e) first next k .bytes) blank l → after ≡ rows
+    pub labs-go : (before after rows : List ℕ) → 1024 ≤ l .lab → f ≡ legal
+        → rows ≡ putRows (occupied first next) (λ k. resultAt t (knownAt e) first next k .bytes) blank (l .lab) → after ≡ rows
         → (f ≡ firstBroken (labGroup t e a)) × (after ≡ cond (eqb (f .number) 0) (concatMap (λ k. routeOf t (labCells e a k)) (below 1024)) before)
     labs-go before after rows h q p o =
         let none : f .number ≡ 0 = ap (λ (z : Finding). z .number) q in
-        let group = lab-group (labs-kept t (knownAt e) first next l at h q) in
+        let group = lab-group (labs-kept t (knownAt e) first next l found h q) in
         let held : firstBroken (labGroup t e a) .number ≡ 0 = ap (λ (z : Finding). z .number) (sym group) ∙ none in
-        (group, rw (eq-eqb (f .number) 0 none) (o ∙ p ∙ rw (labs-all t (knownAt e) first next l at h, x, y, c) (routes-are t e a sound fits held blank blank-size)))
+        let all = labs-all t (knownAt e) first next l found h in
+        (group, rw (eq-eqb (f .number) 0 none) (o ∙ p ∙ rw (all, x, y, c) (routes-are t e a sound fits held blank blank-bytes blank-size)))
 
 -- ---- the whole verdict
 module _ (t : Table) (e a before : List ℕ) (f : Finding) (x : f ≡ firstBroken (checksTo51 e a (length before))) where

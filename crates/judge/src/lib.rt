@@ -17,7 +17,6 @@ ghost use Rattle.judge.specs.Judge.{finding, legal, ofExercise, ofAnswer
 ghost use Rattle.judge.specs.Numbers.{faultOf};
 ghost use Rattle.judge.specs.Stages.{numbered, placedBy, numbersOf};
 ghost use Rattle.netlist.specs.Tables.{NONE, numberAt};
-ghost use Rattle.labs.specs.Results.{resultAt};
 
 // The route buffer's length: eight bytes for each of 1,024 LABs.
 pub const ROUTE_SIZE: usize = 8192;
@@ -213,24 +212,6 @@ fn finding_to_51(exercise: &[u8], answer: &[u8], room: usize) -> Finding
     cells_finding(exercise, answer)
 }
 
-// The finding of a LAB that breaks one of 60 to 65, from the lists of cells by LAB.
-fn lab_finding(
-    table: [[bool; 5]; 6],
-    exercise: &[u8],
-    first: &[u16],
-    next: &[u16],
-    lab: u16,
-) -> Finding
-    ensures { λ r. ⌜ r ≡ finding (resultAt table (knownAt (now (exercise .entry))) (now (first .entry)) (now (next .entry)) lab .number) NONE lab ⌝ }
-{
-    let result = labs::result_at(table, exercise, first, next, lab as usize);
-    Finding {
-        number: result.number,
-        cell: NONE,
-        lab,
-    }
-}
-
 // Copies the rows into the route buffer.
 fn copy(rows: &[u8], route: &mut [u8])
     requires { ⌜ length (now rows) ≡ length (now route) ⌝ }
@@ -254,9 +235,13 @@ fn judge_labs(table: [[bool; 5]; 6], exercise: &[u8], answer: &[u8], route: &mut
     let mut next = [NONE; 512];
     labs::link_cells(answer, cells, &mut first, &mut next);
     let mut rows = [255u8; 8192];
-    let lab = labs::route_labs(table, exercise, &first, &next, &mut rows);
-    if lab < labs::LABS {
-        return lab_finding(table, exercise, &first, &next, lab);
+    let found = labs::route_labs(table, exercise, &first, &next, &mut rows);
+    if found.lab < labs::LABS {
+        return Finding {
+            number: found.number,
+            cell: NONE,
+            lab: found.lab,
+        };
     }
     copy(&rows, route);
     plain(0)

@@ -24,14 +24,15 @@ row-at g i zero k h = absurd (not-suc-le-zero h)
 row-at g i (suc n) zero h = ap g (omega arith)
 row-at g i (suc n) (suc k) h = row-at g (suc i) n k (le-of-suc-le-suc h) ∙ ap g (omega arith)
 
--- l was l₀, and its first k elements are now g 0, g 1, ..
+-- l was l₀, and only its first k elements were stored to: they are now g 0, g 1, ..
 pub record Written (g : ℕ → ℕ) (l₀ l : List ℕ) (k : ℕ) : Type 0 where
   pub long : length l ≡ length l₀
   pub within : k ≤ length l₀
   pub done : (j : ℕ) → j < k → getD l j 0 ≡ g j
+  pub rest : (j : ℕ) → k ≤ j → getD l j 0 ≡ getD l₀ j 0
 
 pub write-starts : (g : ℕ → ℕ) (l : List ℕ) → Written g l l 0
-write-starts g l = record { long = refl; within = omega arith; done = λ j h. absurd (not-suc-le-zero h) }
+write-starts g l = record { long = refl; within = omega arith; done = λ j h. absurd (not-suc-le-zero h); rest = λ j h. refl }
 
 pub write-goes : (g : ℕ → ℕ) (l₀ l : List ℕ) (k v : ℕ) → Written g l₀ l k → k < length l → v ≡ g k → Written g l₀ (set l k v) (k + 1)
 write-goes g l₀ l k v w h e =
@@ -42,6 +43,7 @@ write-goes g l₀ l k v w h e =
           below-more (λ (j : ℕ). getD (set l k v) j 0 ≡ g j) k
           (λ j b. getD-set-other l k j v 0 (λ q. omega arith) ∙ w .done j b)
           (getD-set-same l k v 0 h ∙ e);
+      rest = λ j b. getD-set-other l k j v 0 (λ q. omega arith) ∙ w .rest j (omega arith);
     }
 
 pub write-ends : (g : ℕ → ℕ) (l₀ l : List ℕ) (k : ℕ) → Written g l₀ l k → length l ≤ k → l ≡ rowFrom g 0 (length l₀)

@@ -1,12 +1,14 @@
--- The rows that are filled eight bytes at a time are the eight bytes of each LAB, one after the other. Assumes nothing.
+-- The rows that are filled eight bytes at a time, those of LABs without cells left as they were, are the eight bytes of each LAB, one after the other. Assumes nothing.
 use Prim.Native.Nat.{ℕ, zero, suc, _+_, _*_, _/_, _%_, _<_, _≤_}
 use mathlib.Core.Path.{_≡_, refl, sym, ap, _∙_}
+use mathlib.Core.Bool.{Bool, false}
 use mathlib.Core.List.{List, [], _∷_, _++_, map}
 use mathlib.Core.Option.{Option, none, some}
 use native.Mathlib.Omega.{arith}
-use lib.ListN.{length, getD, set, replicate, length-set}
+use lib.ListN.{length, getD, set, replicate, length-set, getD-replicate}
 use lib.Seq.{ext-getD}
-use lib.Dec.{eqb}
+use lib.Dec.{eqb, ltb}
+use borrow.Author.Tests.{ltb-true, ltb-false}
 use Rattle.sheet.specs.Lists.{concatMap, from, below}
 use Rattle.sheet.specs.declared.Record.{Record}
 use Rattle.sheet.proofs.Laws.{by-test}
@@ -32,7 +34,7 @@ row-none : (g : ℕ → ℕ) (i : ℕ) → rowFrom g i 0 ≡ []
 unfolding rowFrom
 row-none g i = refl
 
-module _ (g : ℕ → List ℕ) where
+module _ (some : ℕ → Bool) (g : ℕ → List ℕ) where
   abbrev byteOf : ℕ → ℕ
   byteOf j = getD (g (j / 8)) (j % 8) 0
 
@@ -58,10 +60,11 @@ module _ (g : ℕ → List ℕ) where
   unfolding putRow
   row-long l k b = simp length-set
 
-  pub rows-long : (l : List ℕ) (k : ℕ) → length (putRows g l k) ≡ length l
+  pub rows-long : (l : List ℕ) (k : ℕ) → length (putRows some g l k) ≡ length l
   unfolding putRows
   rows-long l zero = refl
-  rows-long l (suc k) = row-long (putRows g l k) k (g k) ∙ rows-long l k
+  rows-long l (suc k) =
+      by-test (some k) (λ t. rw t (row-long (putRows some g l k) k (g k) ∙ rows-long l k)) (λ t. rw t (rows-long l k))
 
   -- byte j of the row of LAB k
   byte-goes : (l₀ l : List ℕ) (k j at after : ℕ) → j < 8 → at ≡ 8 * k + j → after ≡ at + 1 → 8 * k + 8 ≤ length l₀ → Written byteOf l₀ l at
@@ -83,16 +86,38 @@ module _ (g : ℕ → List ℕ) where
       let w7 = byte-goes l₀ _ k 6 (8 * k + 6) (8 * k + 7) (omega arith) refl (omega arith) r w6 in
       byte-goes l₀ _ k 7 (8 * k + 7) (8 * suc k) (omega arith) refl (omega arith) r w7
 
-  rows-go : (l : List ℕ) (k : ℕ) → 8 * k ≤ length l → Written byteOf l (putRows g l k) (8 * k)
-  unfolding putRows
-  rows-go l zero h = write-starts byteOf l
-  rows-go l (suc k) h = row-goes l (putRows g l k) k (omega arith) (rows-go l k (omega arith))
+  -- a LAB that is left alone, where the rows were 255s and its bytes are
+  row-left : (l₀ l : List ℕ) (k : ℕ) → 8 * k + 8 ≤ length l₀ → ((j : ℕ) → j < length l₀ → getD l₀ j 0 ≡ 255) → g k ≡ replicate 8 255
+      → Written byteOf l₀ l (8 * k) → Written byteOf l₀ l (8 * suc k)
+  row-left l₀ l k r blank e w =
+      record {
+        long = w .long;
+        within = omega arith;
+        done =
+            λ j h.
+            by-test (ltb j (8 * k)) (λ t. w .done j (ltb-true j (8 * k) t))
+            (λ t.
+            let past = ltb-false j (8 * k) t in
+            let lab : j / 8 ≡ k = omega arith in
+            w .rest j past ∙ blank j (omega arith) ∙ sym (rw (lab, e) (getD-replicate 8 (j % 8) 255 0 (omega arith))));
+        rest = λ j h. w .rest j (omega arith);
+      }
 
-  -- rows of all LABs below k and no more
-  pub rows-put : (l : List ℕ) (k : ℕ) → length l ≡ 8 * k → ((i : ℕ) → i < k → length (g i) ≡ 8) → putRows g l k ≡ concatMap g (below k)
-  rows-put l k h e =
-      let w = rows-go l k (omega arith) in
-      write-ends byteOf l (putRows g l k) (8 * k) w (omega (arith, w .long)) ∙ rw h (rows-from 0 k (λ i b. e i (omega arith)))
+  module _ (l : List ℕ) (blank : (j : ℕ) → j < length l → getD l j 0 ≡ 255) where
+    rows-go : (k : ℕ) → 8 * k ≤ length l → ((i : ℕ) → i < k → some i ≡ false → g i ≡ replicate 8 255) → Written byteOf l (putRows some g l k) (8 * k)
+    unfolding putRows
+    rows-go zero h empty = write-starts byteOf l
+    rows-go (suc k) h empty =
+        let w = rows-go k (omega arith) (λ i b. empty i (omega arith)) in
+        by-test (some k) (λ t. rw t (row-goes l (putRows some g l k) k (omega arith) w))
+        (λ t. rw t (row-left l (putRows some g l k) k (omega arith) blank (empty k (omega arith) t) w))
+
+    -- rows of all LABs below k and no more, where those that are left alone have eight 255s
+    pub rows-put : (k : ℕ) → length l ≡ 8 * k → ((i : ℕ) → i < k → some i ≡ false → g i ≡ replicate 8 255) → ((i : ℕ) → i < k → length (g i) ≡ 8)
+        → putRows some g l k ≡ concatMap g (below k)
+    rows-put k h empty e =
+        let w = rows-go k (omega arith) empty in
+        write-ends byteOf l (putRows some g l k) (8 * k) w (omega (arith, w .long)) ∙ rw h (rows-from 0 k (λ i b. e i (omega arith)))
 
 -- ---- a result has eight bytes
 routed-eight : (ns : List Need) (way : Option (List ℕ)) → length (routedResult (labRouteOf ns way) .bytes) ≡ 8

@@ -1,5 +1,5 @@
--- A LAB of five cells at the most reads 35 nets at the most, so its result is the same with no net counted; and how the loops of `is_short` and
--- `counted_from` go. Assumes nothing.
+-- A LAB of five cells at the most reads 35 nets at the most, so its result is the same with no net counted; and how the loop of `is_short` goes.
+-- Assumes nothing.
 use Prim.Native.Nat.{ℕ, zero, suc, _+_, _*_, _-_, _≤_, _<_}
 use mathlib.Core.Path.{_≡_, refl, sym, ap, _∙_}
 use mathlib.Core.Bool.{Bool, true, false, cond}
@@ -7,8 +7,8 @@ use mathlib.Core.List.{List, [], _∷_, _++_, map}
 use native.Mathlib.Nat.{sub-zero}
 use native.Mathlib.Omega.{arith}
 use lib.ListN.{length, getD, set, replicate}
-use lib.Dec.{eqb}
-use borrow.Author.Tests.{lt-ltb, le-ltb}
+use lib.Dec.{eqb, leb}
+use borrow.Author.Tests.{lt-ltb, le-ltb, le-leb, lt-leb, leb-true}
 use Rattle.sheet.specs.Lists.{filterb, concatMap}
 use Rattle.sheet.specs.Signal.{isNet, netOf}
 use Rattle.sheet.specs.declared.Record.{Record}
@@ -18,12 +18,12 @@ use Rattle.sheet.proofs.Laws.{by-test}
 use Rattle.distinct.specs.Nets.{Use, reads, drives, netsRead, markRead, markDriven, markAll, readMarks}
 use Rattle.route.specs.Table.{Table}
 use Rattle.lab.specs.Ports.{inputs, netsAt}
-use Rattle.lab.specs.Counts.{noCounts, countsWith, countsAll, usesOf, markCells, brokenBy, resultFrom}
+use Rattle.lab.specs.Counts.{noCounts, countsAll, usesOf, markCells, brokenBy, resultFrom}
 use Rattle.lab.specs.declared.Counts.{Counts}
 use Rattle.lab.specs.declared.LabResult.{LabResult}
 use Rattle.netlist.specs.Tables.{NONE}
 use Rattle.labs.specs.Members.{walk}
-use Rattle.labs.specs.Results.{resultOf, countedOf}
+use Rattle.labs.specs.Results.{markedIf, resultOf}
 use Rattle.labs.proofs.Taking.{no-marks}
 
 -- ---- marks
@@ -100,54 +100,44 @@ unfolding markCells
 few-reads t k z cs none h =
     nets-few t k (readMarks (markAll z (concatMap usesOf cs))) (omega (arith, marks-most z (concatMap usesOf cs), reads-most cs))
 
-pub short-is : (t : Table) (get : ℕ → Record) (is : List ℕ) → length is ≤ 5 → countedOf t get is ≡ resultOf t get is
-unfolding resultOf countedOf
+pub short-is : (t : Table) (get : ℕ → Record) (is : List ℕ) → length is ≤ 5 → resultFrom t (countsAll noCounts (map get is)) 0 ≡ resultOf t get is
+unfolding resultOf
 short-is t get is h =
     let cs = map get is in
     sym (few-reads t (countsAll noCounts cs) (replicate 1024 0) cs (no-marks 1024) (rw (map-length get is) h))
 
--- ---- the loops
+-- a short list's result, and a longer one's
+module _ (t : Table) (get : ℕ → Record) (is : List ℕ) (counts : Counts) (k : counts ≡ countsAll noCounts (map get is)) {r : LabResult} where
+  pub short-result : (b : Bool) → b ≡ leb (length is) 5 → b ≡ true → r ≡ resultFrom t counts 0 → r ≡ resultOf t get is
+  short-result b q h p = p ∙ rw k (short-is t get is (leb-true (length is) 5 (sym q ∙ h)))
+
+  pub long-result : (marks : List ℕ) (m : ℕ) → marks ≡ markedIf true (replicate 1024 0) (map get is) → m ≡ readMarks marks → r ≡ resultFrom t counts m
+      → r ≡ resultOf t get is
+  unfolding resultOf markedIf
+  long-result marks m q z p = p ∙ rw (k, z, q)
+
+-- ---- the loop
 -- the first k cells of the list are passed
 pub record Passed (next : List ℕ) (n start at k : ℕ) : Type 0 where
   pub within : k ≤ n
   pub long : length (walk next start n) ≡ k + length (walk next at (n - k))
 
 module _ (next : List ℕ) (n start : ℕ) where
-  pub pass-starts : Passed next n start start 0
-  pass-starts = record { within = omega arith; long = rw (sub-zero n) (omega arith) }
+  pub short-starts : Passed next n start start 0
+  short-starts = record { within = omega arith; long = rw (sub-zero n) (omega arith) }
 
   module _ (at k : ℕ) (s : Passed next n start at k) where
-    pub pass-goes : (at′ : ℕ) → k < n → at < length next → at′ ≡ getD next at NONE → Passed next n start at′ (k + 1)
+    pub short-goes : (at′ : ℕ) → k < n → at < length next → at′ ≡ getD next at NONE → Passed next n start at′ (k + 1)
     unfolding walk
-    pass-goes at′ h l r =
+    short-goes at′ h l r =
         let more : n - k ≡ suc (n - (k + 1)) = omega arith in
         let one : length (walk next at (n - k)) ≡ suc (length (walk next at′ (n - (k + 1)))) = rw (more, lt-ltb at (length next) l, r) in
         record { within = omega arith; long = omega (arith, s .long) }
 
-    pub pass-ends : walk next at (n - k) ≡ [] → length (walk next start n) ≡ k
-    pass-ends z = let none : length (walk next at (n - k)) ≡ 0 = rw z in omega (arith, s .long)
+    pub short-stops : k ≤ 5 → walk next at (n - k) ≡ [] → true ≡ leb (length (walk next start n)) 5
+    short-stops h z =
+        let none : length (walk next at (n - k)) ≡ 0 = rw z in
+        sym (le-leb (length (walk next start n)) 5 (omega (arith, s .long)))
 
-pub false-not-true : {G : Type 0} → false ≡ true → G
-false-not-true e = let z : _≡_ {A = ℕ} 0 1 = cc in absurd (omega arith)
-
--- k of at most n cells are counted
-pub record Counted (get : ℕ → Record) (next : List ℕ) (n start : ℕ) (counts : Counts) (at k : ℕ) : Type 0 where
-  pub within : k ≤ n
-  pub counted : countsAll noCounts (map get (walk next start n)) ≡ countsAll counts (map get (walk next at (n - k)))
-
-module _ (get : ℕ → Record) (next : List ℕ) (n start : ℕ) where
-  pub count-starts : (counts : Counts) → counts ≡ noCounts → Counted get next n start counts start 0
-  count-starts counts z = record { within = omega arith; counted = rw (sub-zero n, z) }
-
-  module _ (counts : Counts) (at k : ℕ) (s : Counted get next n start counts at k) where
-    pub count-goes : (cell : Record) (counts′ : Counts) (at′ : ℕ) → k < n → at < length next → cell ≡ get at
-        → counts′ ≡ countsWith counts cell → at′ ≡ getD next at NONE → Counted get next n start counts′ at′ (k + 1)
-    unfolding walk countsAll
-    count-goes cell counts′ at′ h l c p r =
-        let more : n - k ≡ suc (n - (k + 1)) = omega arith in
-        record { within = omega arith; counted = s .counted ∙ rw (more, lt-ltb at (length next) l, p, c, r) }
-
-    pub count-ends : (t : Table) {r : LabResult} → walk next at (n - k) ≡ [] → r ≡ resultFrom t counts 0
-        → r ≡ countedOf t get (walk next start n)
-    unfolding countsAll countedOf
-    count-ends t z p = p ∙ rw (s .counted, z)
+    pub short-ends : 6 ≤ k → false ≡ leb (length (walk next start n)) 5
+    short-ends h = sym (lt-leb (length (walk next start n)) 5 (omega (arith, s .long)))

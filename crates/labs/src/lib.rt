@@ -1,17 +1,27 @@
 use lab::Counts;
 use lab::LabResult;
 use sheet::CellNumber;
+use sheet::Record;
 ghost use mathlib.Core.Path.{_≡_};
-ghost use mathlib.Core.Bool.{true};
-ghost use Prim.Native.Nat.{_<_, _≤_};
+ghost use mathlib.Core.Bool.{cond};
+ghost use mathlib.Core.List.{map};
+ghost use Prim.Native.Nat.{_<_};
 ghost use lib.ListN.{length, getD, set};
-ghost use Rattle.sheet.specs.Lists.{firstFrom};
+ghost use lib.Dec.{leb};
 ghost use Rattle.sheet.specs.Record.{knownAt};
+ghost use Rattle.distinct.specs.Nets.{markAll};
+ghost use Rattle.lab.specs.Counts.{noCounts, countsAll, usesOf};
 ghost use Rattle.labs.specs.Members.{Links, link, linkBelow, walk};
-ghost use Rattle.labs.specs.Results.{resultOf, countedOf, resultAt, brokenLab, putRow, putRows};
+ghost use Rattle.labs.specs.Results.{markedIf, resultOf, resultAt, occupied, lowestBroken, putRow, putRows};
 
 // The number of LABs.
 pub const LABS: u16 = 1024;
+
+// The lowest LAB that breaks one of 60 to 65 and the number, or 1,024 and 0.
+pub struct LowestBroken {
+    pub lab: u16,
+    pub number: u8,
+}
 
 // Puts every cell into the list of its LAB, rising: `first` has a LAB's first cell, `next` the next cell of the same LAB.
 pub fn link_cells(answer: &[u8], cells: u16, first: &mut [u16], next: &mut [u16])
@@ -54,30 +64,9 @@ fn entry(table: &[u16], i: usize) -> u16
     netlist::NONE
 }
 
-// The result of the LAB whose list begins with a cell.
-fn result_from(table: [[bool; 5]; 6], exercise: &[u8], next: &[u16], start: u16) -> LabResult
-    ensures { λ r. ⌜ r ≡ resultOf table (knownAt (now (exercise .entry))) (walk (now (next .entry)) start 512) ⌝ }
-{
-    let mut counts = Counts::none();
-    let mut marks = [0u8; 1024];
-    let mut at = start;
-    let mut k: usize = 0;
-    while k < 512 {
-        if next.len() <= at as usize {
-            return lab::lab_result(table, counts, distinct::count_read(&marks));
-        }
-        let cell = sheet::known_record_at(exercise, CellNumber(at));
-        counts = counts.with(cell);
-        lab::mark_cell(&mut marks, cell);
-        at = entry(next, at as usize);
-        k += 1;
-    }
-    lab::lab_result(table, counts, distinct::count_read(&marks))
-}
-
 // Whether the list that begins with a cell has five cells at the most.
 fn is_short(next: &[u16], start: u16) -> bool
-    ensures { λ r. ⌜ (r ≡ true → length (walk (now (next .entry)) start 512) ≤ 5) ⌝ }
+    ensures { λ r. ⌜ r ≡ leb (length (walk (now (next .entry)) start 512)) 5 ⌝ }
 {
     let mut at = start;
     let mut k: usize = 0;
@@ -91,46 +80,60 @@ fn is_short(next: &[u16], start: u16) -> bool
     false
 }
 
-// The result of the LAB whose list begins with a cell, its nets not counted.
-fn counted_from(table: [[bool; 5]; 6], exercise: &[u8], next: &[u16], start: u16) -> LabResult
-    ensures { λ r. ⌜ r ≡ countedOf table (knownAt (now (exercise .entry))) (walk (now (next .entry)) start 512) ⌝ }
+// Marks the nets that a cell reads and drives, where they are to be marked.
+fn mark_if(marking: bool, marks: &mut [u8; 1024], cell: Record)
+    ensures { λ _. ⌜ now (marks .exit) ≡ cond marking (markAll (now (marks .entry)) (usesOf cell)) (now (marks .entry)) ⌝ }
+{
+    if marking {
+        lab::mark_cell(marks, cell);
+    }
+}
+
+// The walk over the list that begins with a cell: counts its cells, and marks their nets where they are to be marked.
+fn count_cells(
+    exercise: &[u8],
+    next: &[u16],
+    start: u16,
+    marking: bool,
+    marks: &mut [u8; 1024],
+) -> Counts
+    ensures counted { λ r. ⌜ r ≡ countsAll noCounts (map (knownAt (now (exercise .entry))) (walk (now (next .entry)) start 512)) ⌝ }
+    ensures marked { λ _. ⌜ now (marks .exit) ≡ markedIf marking (now (marks .entry)) (map (knownAt (now (exercise .entry))) (walk (now (next .entry)) start 512)) ⌝ }
 {
     let mut counts = Counts::none();
     let mut at = start;
-    let mut i: usize = 0;
-    while i < 512 {
+    let mut k: usize = 0;
+    while k < 512 {
         if next.len() <= at as usize {
-            return lab::lab_result(table, counts, 0);
+            return counts;
         }
         let cell = sheet::known_record_at(exercise, CellNumber(at));
         counts = counts.with(cell);
+        mark_if(marking, marks, cell);
         at = entry(next, at as usize);
-        i += 1;
+        k += 1;
     }
-    lab::lab_result(table, counts, 0)
+    counts
 }
 
-// The result of a LAB of an exercise that passes 15. One without cells keeps every rule and has eight 255s. Five cells read 35 nets at the most: they keep 64.
-pub fn result_at(
+// The result of the LAB whose list begins with a cell. Five cells read 35 nets at the most and keep 64, so only a longer list needs the marks;
+// whatever they hold, they are room to work in.
+fn result_from(
     table: [[bool; 5]; 6],
     exercise: &[u8],
-    first: &[u16],
     next: &[u16],
-    lab: usize,
+    start: u16,
+    marks: &mut [u8; 1024],
 ) -> LabResult
-    ensures { λ r. ⌜ r ≡ resultAt table (knownAt (now (exercise .entry))) (now (first .entry)) (now (next .entry)) lab ⌝ }
+    ensures { λ r. ⌜ r ≡ resultOf table (knownAt (now (exercise .entry))) (walk (now (next .entry)) start 512) ⌝ }
 {
-    let start = entry(first, lab);
-    if next.len() <= start as usize {
-        return LabResult {
-            number: 0,
-            bytes: [255u8; 8],
-        };
-    }
     if is_short(next, start) {
-        return counted_from(table, exercise, next, start);
+        let counts = count_cells(exercise, next, start, false, marks);
+        return lab::lab_result(table, counts, 0);
     }
-    result_from(table, exercise, next, start)
+    *marks = [0u8; 1024];
+    let counts = count_cells(exercise, next, start, true, marks);
+    lab::lab_result(table, counts, distinct::count_read(marks))
 }
 
 // Puts a LAB's eight route bytes into the rows.
@@ -149,26 +152,34 @@ fn put_row(rows: &mut [u8; 8192], lab: u16, bytes: [u8; 8])
     rows[at + 7] = bytes[7];
 }
 
-// 60 to 65, in an exercise that passes 15: the lowest LAB that breaks one of them, or 1,024. The route bytes of the LABs below it are put into the rows.
+// 60 to 65, in an exercise that passes 15: the lowest LAB that breaks one of them, with the number. The route bytes of the occupied LABs below it are
+// put into the rows.
 pub fn route_labs(
     table: [[bool; 5]; 6],
     exercise: &[u8],
     first: &[u16],
     next: &[u16],
     rows: &mut [u8; 8192],
-) -> u16
-    ensures found { λ r. ⌜ r ≡ firstFrom (brokenLab table (knownAt (now (exercise .entry))) (now (first .entry)) (now (next .entry))) 0 1024 ⌝ }
-    ensures written { λ r. ⌜ now (rows .exit) ≡ putRows (λ l. resultAt table (knownAt (now (exercise .entry))) (now (first .entry)) (now (next .entry)) l .bytes) (now (rows .entry)) r ⌝ }
+) -> LowestBroken
+    ensures found { λ r. ⌜ r ≡ lowestBroken table (knownAt (now (exercise .entry))) (now (first .entry)) (now (next .entry)) ⌝ }
+    ensures written { λ r. ⌜ now (rows .exit) ≡ putRows (occupied (now (first .entry)) (now (next .entry))) (λ l. resultAt table (knownAt (now (exercise .entry))) (now (first .entry)) (now (next .entry)) l .bytes) (now (rows .entry)) (r .lab) ⌝ }
 {
+    let mut marks = [0u8; 1024];
     let mut lab: u16 = 0;
     while lab < LABS {
-        let result = result_at(table, exercise, first, next, lab as usize);
-        if result.number != 0 {
-            return lab;
+        let start = entry(first, lab as usize);
+        if next.len() <= start as usize {
+            lab += 1;
+            continue;
+        }
+        let result = result_from(table, exercise, next, start, &mut marks);
+        let number = result.number;
+        if number != 0 {
+            return LowestBroken { lab, number };
         }
         let bytes = result.bytes;
         put_row(rows, lab, bytes);
         lab += 1;
     }
-    lab
+    LowestBroken { lab, number: 0 }
 }

@@ -2,7 +2,7 @@
 use Rattle.judge.proofs.Steps.{rows-size, whole-room, labs-stop, labs-go}
 use lib.ListN.{length}
 use denote.Ref.{now}
-use mathlib.Core.Path.{sym, _∙_}
+use mathlib.Core.Path.{refl, sym, _∙_}
 use native.Mathlib.Omega.{arith}
 use borrow.Author.Needs.{needs}
 use Rattle.judge.proofs.judge_labs.Statement.{statement}
@@ -10,33 +10,33 @@ use Rattle.judge.proofs.judge_labs.Tie as tie
 
 returns : tie.Need-returns
 returns c =
-    let i = c .before .before .before in
-    let p = i .before in
+    let p = c .before .before in
     let l = p .before .before .before .before .before .before in
     let m = l .before .before .before in
     let k = m .before .before .before .before in
     labs-stop (k .args .table) (now (k .args .exercise)) (now (k .args .answer)) (length (now (k .args .route))) (k .pre) _ _ _ (m .cell-count .ensures)
-    (l .link-cells .ensures .0) (l .link-cells .ensures .1) _ (p .route-labs .ensures .0) _ (now (k .args .route)) (omega (arith, i .if1 .taken)) (c .lab-finding .ensures)
+    (l .link-cells .ensures .0) (l .link-cells .ensures .1) _ (p .route-labs .ensures .0) _ (now (k .args .route)) (omega (arith, c .if1 .taken)) refl
 
 copy-requires : tie.Need-copy-requires
 copy-requires c κs =
-    let p = c .before .before .before in
+    let p = c .before .before .before .before in
     let l = p .before .before .before .before .before .before in
     let m = l .before .before .before in
     let k = m .before .before .before .before in
-    sym (rows-size _ _ _ (p .route-labs .ensures .1))
+    sym (rows-size _ _ _ _ (p .route-labs .ensures .1))
     ∙ sym (whole-room (k .args .table) (now (k .args .exercise)) (now (k .args .answer)) (length (now (k .args .route))) (k .pre))
 
 returns-2 : tie.Need-returns-2
 returns-2 c =
     let o = c .before .before .before in
     let i = o .before .before .before in
-    let p = i .before in
+    let p = i .before .before in
     let l = p .before .before .before .before .before .before in
     let m = l .before .before .before in
     let k = m .before .before .before .before in
     labs-go (k .args .table) (now (k .args .exercise)) (now (k .args .answer)) (length (now (k .args .route))) (k .pre) _ _ _ (m .cell-count .ensures)
-    (l .link-cells .ensures .0) (l .link-cells .ensures .1) _ (p .route-labs .ensures .0) _ (now (k .args .route)) _ _ (omega (arith, i .if1 .left)) (c .plain .ensures) (p .route-labs .ensures .1) (o .copy .ensures)
+    (l .link-cells .ensures .0) (l .link-cells .ensures .1) _ (p .route-labs .ensures .0) _ (now (k .args .route)) _ _ (omega (arith, i .if1 .left))
+    (c .plain .ensures) (p .route-labs .ensures .1) (o .copy .ensures)
 
 pub judge-labs-spec : {M : Type 1} → statement M
 judge-labs-spec =
@@ -49,11 +49,8 @@ judge-labs-spec =
     (λ c. search needs)  -- slice-aggregate-route-labs
     (λ c. search needs)  -- slice-aggregate-route-labs-2
     (λ c κs. search needs)  -- route-labs-requires
-    (λ c. search needs)  -- slice-aggregate-lab-finding
-    (λ c. search needs)  -- slice-aggregate-lab-finding-2
-    (λ c κs. search needs)  -- lab-finding-requires
     returns
-    (λ c. rows-size _ _ _ (c .before .before .route-labs .ensures .1))  -- slice-aggregate-copy
+    (λ c. rows-size _ _ _ _ (c .before .before .before .route-labs .ensures .1))  -- slice-aggregate-copy
     copy-requires
     (λ c κs. search needs)  -- plain-requires
     (λ c. search needs)  -- same-length

@@ -1,10 +1,10 @@
 -- `labs::is_short` meets its contract. The loop's invariant: the cells that were passed and those that are left are the whole list. Where it answers
--- true no cell is left, and five were passed at the most. Assumes nothing.
+-- true no cell is left, and five were passed at the most; where it answers false six were. Assumes nothing.
 use borrow.Author.Needs.{needs}
 use Prim.Native.Nat.{_-_, _<_}
 use native.Mathlib.Omega.{arith}
 use Rattle.labs.proofs.Linked.{walk-past}
-use Rattle.labs.proofs.Short.{Passed, pass-starts, pass-goes, pass-ends, false-not-true}
+use Rattle.labs.proofs.Short.{Passed, short-starts, short-goes, short-stops, short-ends}
 use Rattle.labs.proofs.is_short.Statement.{statement}
 use Rattle.labs.proofs.is_short.Tie as tie
 
@@ -18,13 +18,13 @@ returns : tie.Need-returns Inv-loop μ-loop
 returns c =
     let l = c .before .before .loop in
     let a = c .before .before .before .before .args in
-    λ e. omega (arith, c .before .loop-test .taken, pass-ends (a .next .now) 512 (a .start) (l .at) (l .k) (l .inv .0) (walk-past (a .next .now) (l .at) (512 - l .k) (c .if1 .taken)))
+    short-stops _ 512 _ (l .at) (l .k) (l .inv .0) (omega (arith, c .before .loop-test .taken)) (walk-past (a .next .now) (l .at) (512 - l .k) (c .if1 .taken))
 
 loop-again : tie.Need-loop-again Inv-loop μ-loop
 loop-again c =
     let i = c .before in
     let l = i .before .before .loop in
-    (pass-goes _ 512 _ _ (l .k) (l .inv .0) _ (omega (arith, i .before .loop-test .taken)) (i .if1 .left) (c .entry .ensures), omega arith)
+    (short-goes _ 512 _ _ (l .k) (l .inv .0) _ (omega (arith, i .before .loop-test .taken)) (i .if1 .left) (c .entry .ensures), omega arith)
 
 pub is-short-spec : {M : Type 1} → statement M
 is-short-spec =
@@ -32,7 +32,7 @@ is-short-spec =
     (tie.spec
     Inv-loop
     μ-loop
-    (λ c. (pass-starts _ _ _, search needs))  -- loop-holds
+    (λ c. (short-starts _ _ _, search needs))  -- loop-holds
     (λ c. search needs)  -- cast-if1
     returns
     (λ c. search needs)  -- cast-entry
@@ -40,4 +40,4 @@ is-short-spec =
     (λ c. search needs)  -- add-k
     (λ c. search needs)  -- loop-less
     loop-again
-    (λ c. λ e. false-not-true e))  -- returns-2
+    (λ c. short-ends _ 512 _ _ (c .before .loop .k) (c .before .loop .inv .0) (c .loop-test .left)))  -- returns-2
