@@ -1,4 +1,5 @@
 pub use netlist::NONE;
+use route::EntryTable;
 use sheet::CellNumber;
 ghost use mathlib.Core.Path.{_≡_};
 ghost use mathlib.Core.Bool.{cond};
@@ -225,7 +226,7 @@ fn copy(rows: &[u8], route: &mut [u8])
 }
 
 // 60 to 65, of sheets that pass 1 to 51; where none is broken, the routes are written.
-fn judge_labs(table: [[bool; 5]; 6], exercise: &[u8], answer: &[u8], route: &mut [u8]) -> Finding
+fn judge_labs(table: EntryTable, exercise: &[u8], answer: &[u8], route: &mut [u8]) -> Finding
     requires { ⌜ firstBroken (checksTo51 (now exercise) (now answer) (length (now route))) .number ≡ 0 ⌝ }
     ensures found { λ r. ⌜ r ≡ firstBroken (labGroup table (now (exercise .entry)) (now (answer .entry))) ⌝ }
     ensures written { λ r. ⌜ now (route .exit) ≡ cond (eqb (r .number) 0) (concatMap (λ l. routeOf table (labCells (now (exercise .entry)) (now (answer .entry)) l)) (below 1024)) (now (route .entry)) ⌝ }
@@ -384,7 +385,7 @@ fn verdict_of(exercise: &[u8], answer: &[u8], f: Finding) -> Verdict
 }
 
 // The verdict on two sheets on a board with this entry table; the routes are written where it is legal, and nothing is touched otherwise.
-pub fn judge_on(table: [[bool; 5]; 6], exercise: &[u8], answer: &[u8], route: &mut [u8]) -> Verdict
+pub fn judge_on(table: EntryTable, exercise: &[u8], answer: &[u8], route: &mut [u8]) -> Verdict
     ensures verdict { λ r. ⌜ r ≡ judged table (now (exercise .entry)) (now (answer .entry)) (length (now (route .entry))) ⌝ }
     ensures routes { λ r. ⌜ now (route .exit) ≡ routed table (now (exercise .entry)) (now (answer .entry)) (now (route .entry)) ⌝ }
 {

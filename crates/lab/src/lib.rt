@@ -1,4 +1,5 @@
 use distinct::UpToTwo;
+use route::EntryTable;
 use route::Need;
 use route::Needs;
 use sheet::CombinationalCell;
@@ -278,7 +279,7 @@ pub fn needs_held(counts: Counts) -> Needs
 }
 
 // The result of a LAB with these counts and so many nets in, on a board with this entry table.
-pub fn lab_result(table: [[bool; 5]; 6], counts: Counts, nets: u16) -> LabResult
+pub fn lab_result(table: EntryTable, counts: Counts, nets: u16) -> LabResult
     ensures { λ r. ⌜ r ≡ resultFrom table counts nets ⌝ }
 {
     let number = broken_by(counts, nets);

@@ -1,5 +1,6 @@
 use lab::Counts;
 use lab::LabResult;
+use route::EntryTable;
 use sheet::CellNumber;
 use sheet::Record;
 ghost use mathlib.Core.Path.{_≡_};
@@ -119,7 +120,7 @@ fn count_cells(
 // The result of the LAB whose list begins with a cell. Five cells read 35 nets at the most and keep 64, so only a longer list needs the marks;
 // whatever they hold, they are room to work in.
 fn result_from(
-    table: [[bool; 5]; 6],
+    table: EntryTable,
     exercise: &[u8],
     next: &[u16],
     start: u16,
@@ -155,7 +156,7 @@ fn put_row(rows: &mut [u8; 8192], lab: u16, bytes: [u8; 8])
 // 60 to 65, in an exercise that passes 15: the lowest LAB that breaks one of them, with the number. The route bytes of the occupied LABs below it are
 // put into the rows.
 pub fn route_labs(
-    table: [[bool; 5]; 6],
+    table: EntryTable,
     exercise: &[u8],
     first: &[u16],
     next: &[u16],

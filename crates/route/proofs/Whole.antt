@@ -9,7 +9,7 @@ use native.Mathlib.Omega.{arith}
 use lib.ListN.{length, set, take, drop, replicate, length-take, length-replicate}
 use lib.Seq.{slice, sets, sets-eq, set-comm, take-all}
 use Rattle.route.specs.declared.Need.{Need}
-use Rattle.route.specs.Table.{Table}
+use Rattle.route.specs.Table.{Table, ENTRIES}
 use Rattle.route.specs.Way.{earliestWay}
 use Rattle.route.specs.Search.{searchFrom, mayHave, takenBy, foundWay}
 use Rattle.route.specs.Partial.{put, routedFrom, routedOf}
@@ -40,9 +40,9 @@ unfolding routedFrom routedOf
 from-first none h = refl
 from-first (some w) h = rw (put-front w 8 255 (h w refl)) refl
 
-module _ (t : Table) (needs : List Need) (n count : ℕ) (rows : length t ≡ 6) (eight : length needs ≡ 8) where
+module _ (t : Table) (needs : List Need) (n count : ℕ) (rows : length t ≡ ENTRIES) (eight : length needs ≡ 8) where
   pub whole : take n needs ≡ take count needs
-      → routedFrom 0 (searchFrom (mayHave t) takenBy 6 (replicate 6 false) (slice 0 n needs)) ≡ routedOf (earliestWay t (take count needs))
+      → routedFrom 0 (searchFrom (mayHave t) takenBy ENTRIES (replicate ENTRIES false) (slice 0 n needs)) ≡ routedOf (earliestWay t (take count needs))
   unfolding foundWay
   whole same =
       ap (λ (size : ℕ). routedFrom 0 (searchFrom (mayHave t) takenBy size (replicate size false) (take n needs))) (sym rows)

@@ -5,7 +5,7 @@ ghost use mathlib.Core.List.{[], _∷_};
 ghost use Prim.Native.Nat.{_+_, _≤_, _<_};
 ghost use lib.ListN.{length, take, set, replicate, getD};
 ghost use lib.Seq.{slice};
-ghost use Rattle.route.specs.Table.{houseBoard, needList, noNeeds, withNeed};
+ghost use Rattle.route.specs.Table.{ENTRIES, houseBoard, needList, noNeeds, withNeed};
 ghost use Rattle.route.specs.Way.{earliestWay};
 ghost use Rattle.route.specs.Search.{searchFrom, mayHave, takenBy};
 ghost use Rattle.route.specs.Route.{byteFor, eightBytes, labRouteOf};
@@ -35,8 +35,14 @@ pub struct LabRoute {
     pub bytes: [u8; 8],
 }
 
-// The board of document 01: for each entry, whether it serves clk, ena, aclr, sclr, sload.
-pub const HOUSE_BOARD: [[bool; 5]; 6] = [
+// How many control entries each LAB of a board has.
+pub const ENTRIES: usize = 6;
+
+// For each entry, whether it serves clk, ena, aclr, sclr, sload.
+pub type EntryTable = [[bool; 5]; ENTRIES];
+
+// The board of document 01.
+pub const HOUSE_BOARD: EntryTable = [
     [true, false, false, false, false],
     [true, false, true, false, false],
     [true, true, false, false, false],
@@ -46,7 +52,7 @@ pub const HOUSE_BOARD: [[bool; 5]; 6] = [
 ];
 
 // The board of document 01.
-pub fn house_board() -> [[bool; 5]; 6]
+pub fn house_board() -> EntryTable
     ensures { λ r. ⌜ r ≡ houseBoard ⌝ }
 {
     HOUSE_BOARD
@@ -83,10 +89,10 @@ impl Needs {
 }
 
 // Whether the need may have entry e: it serves the role and is not taken.
-fn may_have(table: [[bool; 5]; 6], taken: [bool; 6], need: Need, e: usize) -> bool
+fn may_have(table: EntryTable, taken: [bool; ENTRIES], need: Need, e: usize) -> bool
     ensures { λ r. ⌜ r ≡ mayHave table taken need e ⌝ }
 {
-    if e < 6 {
+    if e < ENTRIES {
         if taken[e] {
             return false;
         }
@@ -99,9 +105,9 @@ fn may_have(table: [[bool; 5]; 6], taken: [bool; 6], need: Need, e: usize) -> bo
 }
 
 // The earliest way for the needs from `at` to n that gives no taken entry. The needs that remain are one fewer at each call.
-fn place(table: [[bool; 5]; 6], needs: [Need; 8], n: usize, at: usize, taken: [bool; 6]) -> Routed
+fn place(table: EntryTable, needs: [Need; 8], n: usize, at: usize, taken: [bool; ENTRIES]) -> Routed
     requires { ⌜ (at ≤ n) × (n ≤ 8) ⌝ }
-    ensures { λ r. ⌜ r ≡ routedFrom at (searchFrom (mayHave table) takenBy 6 taken (slice at n needs)) ⌝ }
+    ensures { λ r. ⌜ r ≡ routedFrom at (searchFrom (mayHave table) takenBy ENTRIES taken (slice at n needs)) ⌝ }
 {
     if at == n {
         return Routed {
@@ -111,7 +117,7 @@ fn place(table: [[bool; 5]; 6], needs: [Need; 8], n: usize, at: usize, taken: [b
     }
     let need = needs[at];
     let mut e: usize = 0;
-    while e < 6 {
+    while e < ENTRIES {
         if may_have(table, taken, need, e) {
             let mut more = taken;
             more[e] = true;
@@ -134,10 +140,10 @@ fn place(table: [[bool; 5]; 6], needs: [Need; 8], n: usize, at: usize, taken: [b
 }
 
 // The earliest way for a LAB's needs.
-pub fn first_way(table: [[bool; 5]; 6], needs: Needs) -> Routed
+pub fn first_way(table: EntryTable, needs: Needs) -> Routed
     ensures { λ r. ⌜ r ≡ routedOf (earliestWay table (needList needs)) ⌝ }
 {
-    let taken = [false; 6];
+    let taken = [false; ENTRIES];
     let list = needs.list;
     let count = needs.count;
     if 8 < count {
@@ -187,7 +193,7 @@ fn eight_bytes(needs: Needs, entries: [u8; 8]) -> [u8; 8]
 }
 
 // Whether a LAB with these needs has a way, and its eight route bytes.
-pub fn lab_route(table: [[bool; 5]; 6], needs: Needs) -> LabRoute
+pub fn lab_route(table: EntryTable, needs: Needs) -> LabRoute
     ensures { λ r. ⌜ r ≡ labRouteOf (needList needs) (earliestWay table (needList needs)) ⌝ }
 {
     let count = needs.count;
