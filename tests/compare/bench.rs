@@ -1,6 +1,6 @@
 //! Time per judgement of the proved judge and of the Rust judge on the same
-//! sheets, and how it grows with the number of cells; then the list check and the
-//! readers beside plain ones.
+//! sheets, how it grows with the number of cells, and what the least work takes in
+//! the same run; then the list check and the readers beside plain ones.
 
 mod generate;
 mod judge;
@@ -13,15 +13,17 @@ use std::hint::black_box;
 use std::time::{Duration, Instant};
 
 const SIZES: [usize; 4] = [8, 32, 128, 512];
-const VARIANTS: usize = 8;
+// As many different sheets in turn: no branch predictor learns them.
+const VARIANTS: usize = 64;
 const RUNS: usize = 151;
 // Short runs, many of them: other work on the machine then spoils only a few.
 const RUN_TIME: Duration = Duration::from_micros(200);
 
-#[derive(Clone, Copy)]
+#[derive(Clone, Copy, PartialEq)]
 enum Outcome {
     Legal,
     NoApprentice,
+    Shared,
     Clocks,
     NoWay,
 }
@@ -31,6 +33,7 @@ impl Outcome {
         match self {
             Outcome::Legal => 0,
             Outcome::NoApprentice => 23,
+            Outcome::Shared => 50,
             Outcome::Clocks => 60,
             Outcome::NoWay => 65,
         }
@@ -40,13 +43,14 @@ impl Outcome {
         match self {
             Outcome::Legal => "legal",
             Outcome::NoApprentice => "refused early",
+            Outcome::Shared => "refused in last cell",
             Outcome::Clocks | Outcome::NoWay => "refused in last LAB",
         }
     }
 }
 
-/// Full LABs, or one cell to a LAB with three in the last; the last one is broken
-/// as the outcome says.
+/// Full LABs, or one cell to a LAB with three in the last; the last LAB or the last
+/// cell is broken as the outcome says.
 fn sheets(rng: &mut Rng, size: usize, many: bool, outcome: Outcome) -> Sheets {
     let mut s = Sheets {
         nets: 0,
@@ -120,34 +124,51 @@ fn sheets(rng: &mut Rng, size: usize, many: bool, outcome: Outcome) -> Sheets {
         }
     }
     rng.shuffle(&mut s.cells);
-    if let Outcome::NoApprentice = outcome {
-        s.apprentice = 0;
+    match outcome {
+        Outcome::NoApprentice => s.apprentice = 0,
+        // The last cell stands where a lower one of its kind does.
+        Outcome::Shared => {
+            let last = s.cells.len() - 1;
+            let kind = s.cells[last].kind;
+            let same: Vec<usize> = (0..last).filter(|&j| s.cells[j].kind == kind).collect();
+            let other = s.cells[rng.pick(&same)];
+            let c = &mut s.cells[last];
+            (c.x, c.y, c.le) = (other.x, other.y, other.le);
+        }
+        _ => {}
     }
     s
 }
 
-/// Nanoseconds per call over one run.
-fn run(inputs: &[(Vec<u8>, Vec<u8>)], rounds: usize, mut judge: impl FnMut(&[u8], &[u8])) -> f64 {
+/// Nanoseconds per input over one run.
+fn run<T>(inputs: &[T], rounds: usize, mut work: impl FnMut(&T)) -> f64 {
     let start = Instant::now();
     for _ in 0..rounds {
-        for (e, a) in inputs {
-            judge(black_box(e), black_box(a));
+        for x in inputs {
+            work(black_box(x));
         }
     }
     start.elapsed().as_nanos() as f64 / (rounds * inputs.len()) as f64
 }
 
 /// Rounds that fill one run's time.
-fn rounds(inputs: &[(Vec<u8>, Vec<u8>)], mut judge: impl FnMut(&[u8], &[u8])) -> usize {
+fn rounds<T>(inputs: &[T], mut work: impl FnMut(&T)) -> usize {
     let mut n = 1;
     loop {
-        let took = run(inputs, n, &mut judge) * (n * inputs.len()) as f64;
+        let took = run(inputs, n, &mut work) * (n * inputs.len()) as f64;
         if took * 4.0 >= RUN_TIME.as_nanos() as f64 || n >= 1 << 20 {
             let scale = RUN_TIME.as_nanos() as f64 / took.max(1.0);
             return ((n as f64 * scale) as usize).max(1);
         }
         n *= 2;
     }
+}
+
+/// Microseconds per input: the median of runs.
+fn time<T>(inputs: &[T], mut work: impl FnMut(&T)) -> f64 {
+    let n = rounds(inputs, &mut work);
+    let each = (0..RUNS).map(|_| run(inputs, n, &mut work)).collect();
+    median(each) / 1000.0
 }
 
 fn median(mut v: Vec<f64>) -> f64 {
@@ -209,6 +230,63 @@ fn forms(rng: &mut Rng) {
     }
 }
 
+/// The first key that a lower one equals, by the pairwise scan.
+fn first_equal(keys: &[u16]) -> usize {
+    let mut i = 0;
+    'keys: while i < keys.len() {
+        let mut j = 0;
+        while j < i {
+            if keys[j] == keys[i] {
+                break 'keys;
+            }
+            j += 1;
+        }
+        i += 1;
+    }
+    i
+}
+
+/// The least work at 512 cells, and the proved judge's times over it.
+fn bounds(rng: &mut Rng, growth: &[(Outcome, &str, Vec<(f64, f64)>)]) {
+    let mut inputs = Vec::new();
+    let mut keys: Vec<Vec<u16>> = Vec::new();
+    for _ in 0..VARIANTS {
+        let s = sheets(rng, 512, false, Outcome::Shared);
+        let key = |c: &Cell| ((c.kind as u16 - 1) << 14) + 16 * c.lab() as u16 + c.le as u16;
+        keys.push(s.cells.iter().map(key).collect());
+        inputs.push((s.exercise(), s.answer()));
+    }
+    let words = |b: &[u8]| {
+        let word = |w: &[u8]| u64::from_le_bytes(w.try_into().unwrap());
+        b.chunks_exact(8).fold(0, |x, w| x ^ word(w))
+    };
+    let mut route = vec![0u8; judge::ROUTE];
+    let read = time(&inputs, |(e, a)| {
+        black_box(words(e) ^ words(a));
+    });
+    let write = time(&inputs, |_| black_box(&mut route[..]).fill(black_box(255)));
+    let scan = time(&keys, |k| assert_eq!(first_equal(k), 511));
+    println!();
+    println!("least work at 512 cells, in the same run");
+    println!("{:<34}{:>9.3} us", "reading both sheets once", read);
+    println!("{:<34}{:>9.3} us", "writing 8,192 bytes", write);
+    println!("{:<34}{:>9.3} us", "pairwise scan of 512 keys", scan);
+    for (outcome, spread, series) in growth {
+        let (what, least) = match outcome {
+            Outcome::Legal => ("reading and writing", read + write),
+            Outcome::Shared => ("reading and the scan", read + scan),
+            _ => continue,
+        };
+        println!(
+            "{:<21}{:>4}  {:<10}proved over {what}: {:.2}",
+            outcome.name(),
+            outcome.number(),
+            spread,
+            series[3].0 / least
+        );
+    }
+}
+
 /// One line: both on the same inputs, in turn.
 fn compare<T>(
     what: &str,
@@ -217,19 +295,11 @@ fn compare<T>(
     mut proved: impl FnMut(&T),
     mut plain: impl FnMut(&T),
 ) {
-    let each = |f: &mut dyn FnMut(&T)| {
-        let start = Instant::now();
-        for _ in 0..64 {
-            for x in inputs {
-                f(black_box(x));
-            }
-        }
-        start.elapsed().as_nanos() as f64 / (64 * inputs.len()) as f64
-    };
+    let n = rounds(inputs, &mut proved);
     let (mut left, mut right) = (Vec::new(), Vec::new());
     for _ in 0..RUNS {
-        left.push(each(&mut proved));
-        right.push(each(&mut plain));
+        left.push(run(inputs, n, &mut proved));
+        right.push(run(inputs, n, &mut plain));
     }
     let (p, y) = (median(left) / 1000.0, median(right) / 1000.0);
     println!("{what:<31}{size:>6}{p:>13.3}{y:>13.3}{:>8.2}", p / y);
@@ -247,6 +317,7 @@ fn main() {
     for outcome in [
         Outcome::Legal,
         Outcome::NoApprentice,
+        Outcome::Shared,
         Outcome::Clocks,
         Outcome::NoWay,
     ] {
@@ -271,21 +342,24 @@ fn main() {
                     };
                     assert_eq!(s.cells.len(), size);
                     assert_eq!((v[0], v[2]), (outcome.number() as u64, highest as u64));
+                    if outcome == Outcome::Shared {
+                        assert_eq!(v[1], size as u64 - 1);
+                    }
                     assert_eq!(proved::judge(&e, &a, &mut route), v);
                     inputs.push((e, a));
                 }
-                let mut proved = |e: &[u8], a: &[u8]| {
+                let mut proved = |(e, a): &(Vec<u8>, Vec<u8>)| {
                     black_box(proved::judge(e, a, &mut route));
                 };
                 let n = rounds(&inputs, &mut proved);
                 let mut other_route = vec![0u8; judge::ROUTE];
-                let mut rust = |e: &[u8], a: &[u8]| {
+                let mut rust = |(e, a): &(Vec<u8>, Vec<u8>)| {
                     black_box(judge::judge(e, a, &mut other_route));
                 };
                 let m = rounds(&inputs, &mut rust);
                 let (mut left, mut right) = (Vec::new(), Vec::new());
                 // Fewer runs where a single round already fills the time.
-                let runs = if n == 1 { RUNS / 8 } else { RUNS };
+                let runs = if n == 1 { RUNS / 3 } else { RUNS };
                 for _ in 0..runs {
                     left.push(run(&inputs, n, &mut proved));
                     right.push(run(&inputs, m, &mut rust));
@@ -331,5 +405,6 @@ fn main() {
             );
         }
     }
+    bounds(&mut rng, &growth);
     forms(&mut rng);
 }
