@@ -19,7 +19,7 @@ use Rattle.lab.specs.declared.LabResult.{LabResult}
 use Rattle.netlist.specs.Cells.{cell}
 use Rattle.placing.specs.Places.{labAt}
 use Rattle.labs.specs.Members.{Links, members, linkBelow}
-use Rattle.labs.specs.Results.{resultAt, occupied, putRows}
+use Rattle.labs.specs.Results.{resultAt, hasCells, putRows}
 use Rattle.labs.proofs.Linked.{walk-members}
 use Rattle.labs.proofs.Labs.{result-is-lab}
 use Rattle.labs.proofs.Passing.{none-in}
@@ -85,7 +85,7 @@ module _ (t : Table) (e a : List ℕ) (s : Sound e) (fits : (l : ℕ) → AllFit
 
     -- a LAB without cells has eight 255s
     abbrev inUse : ℕ → Bool
-    inUse = occupied (linked a (cellCount e) .first) (linked a (cellCount e) .next)
+    inUse = hasCells (linked a (cellCount e) .first) (linked a (cellCount e) .next)
 
     none-routed : (l : ℕ) → inUse l ≡ false → resultOfLab l .bytes ≡ replicate 8 255
     none-routed l h = ap (λ (r : LabResult). r .bytes) (none-in t (knownAt e) (linked a (cellCount e) .first) (linked a (cellCount e) .next) l h)

@@ -22,7 +22,7 @@ use Rattle.netlist.specs.Tables.{NONE, malformedAt, doubleFrom, readsBelow, rea
 use Rattle.netlist.proofs.Double.{double-is}
 use Rattle.placing.specs.Places.{labAt, outOfRangeAt, placeTaken, detachedAt}
 use Rattle.labs.specs.Members.{members}
-use Rattle.labs.specs.Results.{resultAt, brokenLab, lowestBroken, occupied, putRows}
+use Rattle.labs.specs.Results.{resultAt, brokenLab, lowestBroken, hasCells, putRows}
 use Rattle.labs.specs.declared.LowestBroken.{LowestBroken}
 use Rattle.labs.proofs.Passing.{lowest-lab, lowest-number}
 use Rattle.labs.proofs.Rows.{rows-long}
@@ -331,7 +331,7 @@ module _ (t : Table) (e a : List ℕ) (room : ℕ) (passed : firstBroken (checks
         (lab-group (lab-broken t (knownAt e) first next l found h q), rw (ne-eqb (f .number) 0 some))
 
     pub labs-go : (before after rows : List ℕ) → 1024 ≤ l .lab → f ≡ legal
-        → rows ≡ putRows (occupied first next) (λ k. resultAt t (knownAt e) first next k .bytes) blank (l .lab) → after ≡ rows
+        → rows ≡ putRows (hasCells first next) (λ k. resultAt t (knownAt e) first next k .bytes) blank (l .lab) → after ≡ rows
         → (f ≡ firstBroken (labGroup t e a)) × (after ≡ cond (eqb (f .number) 0) (concatMap (λ k. routeOf t (labCells e a k)) (below 1024)) before)
     labs-go before after rows h q p o =
         let none : f .number ≡ 0 = ap (λ (z : Finding). z .number) q in

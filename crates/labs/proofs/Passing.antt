@@ -15,7 +15,7 @@ use Rattle.lab.specs.declared.LabResult.{LabResult}
 use Rattle.netlist.specs.Tables.{NONE}
 use Rattle.labs.specs.Members.{walk}
 use Rattle.labs.specs.declared.LowestBroken.{LowestBroken}
-use Rattle.labs.specs.Results.{resultOf, resultAt, brokenLab, lowestBroken, occupied, putRow, putRows}
+use Rattle.labs.specs.Results.{resultOf, resultAt, brokenLab, lowestBroken, hasCells, putRow, putRows}
 use Rattle.labs.proofs.Linked.{walk-past}
 use Rattle.labs.proofs.Taking.{result-none}
 
@@ -24,8 +24,8 @@ module _ (t : Table) (get : ℕ → Record) (first next : List ℕ) where
   bytesOf l = resultAt t get first next l .bytes
 
   -- ---- a LAB without cells, and what was found
-  pub none-in : (l : ℕ) → occupied first next l ≡ false → resultAt t get first next l ≡ record { number = 0; bytes = replicate 8 255 }
-  unfolding occupied resultAt
+  pub none-in : (l : ℕ) → hasCells first next l ≡ false → resultAt t get first next l ≡ record { number = 0; bytes = replicate 8 255 }
+  unfolding hasCells resultAt
   none-in l h = rw (walk-past next (getD first l NONE) 512 (ltb-false (getD first l NONE) (length next) h)) (result-none t get)
 
   module _ (r : LowestBroken) (found : r ≡ lowestBroken t get first next) where
@@ -40,22 +40,22 @@ module _ (t : Table) (get : ℕ → Record) (first next : List ℕ) where
   -- ---- the pass; the rows were rows₀
   pub record Passed (rows₀ rows : List ℕ) (lab : ℕ) : Type 0 where
     pub kept : Scanned (brokenLab t get first next) 1024 lab
-    pub put : rows ≡ putRows (occupied first next) bytesOf rows₀ lab
+    pub put : rows ≡ putRows (hasCells first next) bytesOf rows₀ lab
 
   pub pass-starts : (rows : List ℕ) → Passed rows rows 0
   unfolding putRows
   pass-starts rows = record { kept = scan-starts _ 1024; put = refl }
 
   module _ (rows₀ rows : List ℕ) (lab : ℕ) (s : Passed rows₀ rows lab) where
-    pub pass-ends : 1024 ≤ lab → (record { lab = lab; number = 0 } ≡ lowestBroken t get first next) × (rows ≡ putRows (occupied first next) bytesOf rows₀ lab)
+    pub pass-ends : 1024 ≤ lab → (record { lab = lab; number = 0 } ≡ lowestBroken t get first next) × (rows ≡ putRows (hasCells first next) bytesOf rows₀ lab)
     unfolding lowestBroken
     pass-ends h = (rw (← scan-ends _ 1024 lab (s .kept) h, le-ltb lab 1024 h), s .put)
 
     module _ (h : lab < 1024) (start : ℕ) (at : start ≡ getD first lab NONE) where
       pub pass-skips : length next ≤ start → Passed rows₀ rows (lab + 1)
-      unfolding putRows brokenLab occupied
+      unfolding putRows brokenLab hasCells
       pass-skips n =
-          let empty : occupied first next lab ≡ false = rw (← at) (le-ltb start (length next) n) in
+          let empty : hasCells first next lab ≡ false = rw (← at) (le-ltb start (length next) n) in
           record {
             kept = scan-goes-at _ 1024 lab (s .kept) h (rw (none-in lab empty));
             put = s .put ∙ rw (add-one, empty);
@@ -67,7 +67,7 @@ module _ (t : Table) (get : ℕ → Record) (first next : List ℕ) where
         here = rw (← at) k
 
         pub pass-goes : (rows′ : List ℕ) → r .number ≡ 0 → rows′ ≡ putRow rows lab (r .bytes) → Passed rows₀ rows′ (lab + 1)
-        unfolding putRows brokenLab occupied
+        unfolding putRows brokenLab hasCells
         pass-goes rows′ z p =
             record {
               kept = scan-goes-at _ 1024 lab (s .kept) h (ap not (eq-eqb _ 0 (ap (λ (x : LabResult). x .number) (sym here) ∙ z)));
@@ -75,7 +75,7 @@ module _ (t : Table) (get : ℕ → Record) (first next : List ℕ) where
             }
 
         pub pass-stops : (r .number ≡ 0 → ⊥)
-            → (record { lab = lab; number = r .number } ≡ lowestBroken t get first next) × (rows ≡ putRows (occupied first next) bytesOf rows₀ lab)
+            → (record { lab = lab; number = r .number } ≡ lowestBroken t get first next) × (rows ≡ putRows (hasCells first next) bytesOf rows₀ lab)
         unfolding lowestBroken brokenLab
         pass-stops d =
             let found = scan-stops-at _ 1024 lab (s .kept) h (ap not (ne-eqb _ 0 (λ z. d (ap (λ (x : LabResult). x .number) here ∙ z)))) in

@@ -39,8 +39,8 @@ lowestBroken t cell first next =
     record { lab = l; number = cond (ltb l 1024) (resultAt t cell first next l .number) 0 }
 
 -- LAB l has a cell
-unfoldable pub occupied : List ℕ → List ℕ → ℕ → Bool
-occupied first next l = ltb (getD first l NONE) (length next)
+unfoldable pub hasCells : List ℕ → List ℕ → ℕ → Bool
+hasCells first next l = ltb (getD first l NONE) (length next)
 
 -- the eight bytes b of LAB l, put into the rows: "8 bytes per LAB at 8 × LAB number"
 unfoldable pub putRow : List ℕ → ℕ → List ℕ → List ℕ

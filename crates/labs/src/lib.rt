@@ -13,7 +13,7 @@ ghost use Rattle.sheet.specs.Record.{knownAt};
 ghost use Rattle.distinct.specs.Nets.{markAll};
 ghost use Rattle.lab.specs.Counts.{noCounts, countsAll, usesOf};
 ghost use Rattle.labs.specs.Members.{Links, link, linkBelow, walk};
-ghost use Rattle.labs.specs.Results.{markedIf, resultOf, resultAt, occupied, lowestBroken, putRow, putRows};
+ghost use Rattle.labs.specs.Results.{markedIf, resultOf, resultAt, hasCells, lowestBroken, putRow, putRows};
 
 // The number of LABs.
 pub const LABS: u16 = 1024;
@@ -163,7 +163,7 @@ pub fn route_labs(
     rows: &mut [u8; 8192],
 ) -> LowestBroken
     ensures found { λ r. ⌜ r ≡ lowestBroken table (knownAt (now (exercise .entry))) (now (first .entry)) (now (next .entry)) ⌝ }
-    ensures written { λ r. ⌜ now (rows .exit) ≡ putRows (occupied (now (first .entry)) (now (next .entry))) (λ l. resultAt table (knownAt (now (exercise .entry))) (now (first .entry)) (now (next .entry)) l .bytes) (now (rows .entry)) (r .lab) ⌝ }
+    ensures written { λ r. ⌜ now (rows .exit) ≡ putRows (hasCells (now (first .entry)) (now (next .entry))) (λ l. resultAt table (knownAt (now (exercise .entry))) (now (first .entry)) (now (next .entry)) l .bytes) (now (rows .entry)) (r .lab) ⌝ }
 {
     let mut marks = [0u8; 1024];
     let mut lab: u16 = 0;
