@@ -108,10 +108,11 @@ module _ (e a : List ℕ) where
   FineAt f Place = (f .cell < cellCount e) × (length a ≡ placeStart (cellCount e))
   FineAt f Lab = LowestCell e a (f .lab) (lowestIn a (cellCount e) (f .lab)) × (length a ≡ placeStart (cellCount e))
 
+  -- of one finding, and of those of all checks of a list
   abbrev pub Fine : Finding → Type 0
   Fine f = FineAt f (faultOf (f .number))
 
-  AllFine : List Check → Type 0
+  unfoldable AllFine : List Check → Type 0
   AllFine ks = Every (λ k. Fine (k .finding)) ks
 
   legal-fine : Fine legal

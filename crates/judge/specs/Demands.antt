@@ -34,7 +34,7 @@ pub record LowestCell (e a : List ℕ) (l i : ℕ) : Type 0 where
   pub stands : labAt a i ≡ l
   pub none-lower : (j : ℕ) → j < i → labAt a j ≡ l → ⊥
 
--- "a refusal names its culprit": for each number which part of which sheet that is. The numbers stand here as document 01 has them
+-- "a refusal names its culprit": for each number which part of which sheet that is, with document 01's numbers written out
 pub record NamesCulprit (e a : List ℕ) (v : Verdict) : Type 0 where
   -- "for 0 and 1 the empty part at the answer's end"
   pub call : OneOf v (0 ∷ 1 ∷ []) → v .culprit ≡ ofAnswer (length a) 0
@@ -65,8 +65,8 @@ pub record FirstBroken (k : Check) (ks : List Check) : Type 0 where
   pub broken : k .broken ≡ true
 
 module _ (t : Table) where
-  -- DEMAND 1. "exactly one numbered verdict"; "a refusal .. names its culprit and leaves the route buffer untouched"; "the apprentice number
-  -- comes from the answer sheet only": "0 for numbers 1 to 23, otherwise the number on the answer sheet"
+  -- DEMAND 1. "exactly one numbered verdict"; "a refusal names its culprit"; "a refusal .. leaves the route buffer untouched"; "the apprentice
+  -- number comes from the answer sheet only", "0 for numbers 1 to 23"
   pub record Demand1 : Type 0 where
     pub one-number : (e a : List ℕ) (r : ℕ) → elemb (judged t e a r .number) numbers ≡ true
     pub names-culprit : (e a : List ℕ) (r : ℕ) → NamesCulprit e a (judged t e a r)

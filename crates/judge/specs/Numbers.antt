@@ -1,4 +1,5 @@
--- What a verdict number means: the numbers of document 01 by where the fault lies, and those that name no apprentice. Assumes nothing.
+-- What a verdict number means: the numbers of document 01 by where the fault lies, and those that name no apprentice. A list says which
+-- numbers there are, not the order of checking. Assumes nothing.
 use Prim.Native.Nat.{ℕ}
 use mathlib.Core.Bool.{cond}
 use mathlib.Core.List.{List, [], _∷_, _++_}
