@@ -113,13 +113,9 @@ pub cell-numbered : (e : List ℕ) (i : ℕ) → NumberedIn (cellChecks e i)
 unfolding cellChecks
 cell-numbered e i = of-kind-numbered e i (cell e i)
 
--- the LAB rules but for 65
-abbrev pub numbersTo64 : List ℕ
-numbersTo64 = 60 ∷ 61 ∷ 62 ∷ 63 ∷ 64 ∷ []
-
-pub rules-known : (cs : List Record) → Every (λ k. elemb (k .number) numbersTo64 ≡ true) (labRules cs)
+pub rules-numbered : (cs : List Record) → NumberedIn (labRules cs)
 unfolding Every
-rules-known cs = search needs
+rules-numbered cs = search needs
 
 lab-known : (t : Table) (cs : List Record) (l : ℕ) → Every (In refusalNumbers) (ofLab l (labChecks t cs))
 unfolding Every

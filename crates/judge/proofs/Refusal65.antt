@@ -8,7 +8,7 @@ use native.Mathlib.Decide.{decLt}
 use native.Mathlib.Omega.{arith}
 use lib.Dec.{eqb, ltb}
 use borrow.Author.Tests.{eqb-true, ne-eqb, lt-ltb}
-use Rattle.sheet.specs.Lists.{concatMap, filterb, elemb, from, below, firstFrom}
+use Rattle.sheet.specs.Lists.{concatMap, filterb, from, below, firstFrom}
 use Rattle.sheet.specs.Checks as sheet
 use Rattle.sheet.specs.Exercise.{cellCount}
 use Rattle.sheet.specs.declared.Record.{Record}
@@ -17,8 +17,8 @@ use Rattle.route.specs.Table.{Table}
 use Rattle.route.specs.Way.{Way}
 use Rattle.route.proofs.AllWays.{earliest-some, no-needs}
 use Rattle.lab.specs.Ports.{inLab}
-use Rattle.lab.specs.Rules.{needs, noWay, labRules, labChecks}
-use Rattle.lab.proofs.Routes.{stuck, goes}
+use Rattle.lab.specs.Rules.{needs, noWay, labRules, labChecks, labNumber}
+use Rattle.lab.proofs.Routes.{stuck, goes, told}
 use Rattle.placing.specs.Places.{labAt}
 use Rattle.labs.specs.Members.{members}
 use Rattle.netlist.specs.Tables.{NONE}
@@ -28,35 +28,16 @@ use Rattle.judge.specs.Numbers.{numbersTo51}
 use Rattle.judge.specs.Demands.{AllHold, FourThings, Keeps60to64, Keeps65, labNeeds}
 use Rattle.judge.proofs.Broken.{Every, NumberedIn, skip-held, breaksOne, labs-find}
 use Rattle.sheet.proofs.First.{before-first, first-is}
-use Rattle.judge.proofs.Numbers.{numbersTo64, later-held, rules-known, lab-numbered, to-51-known}
+use Rattle.judge.proofs.Numbers.{later-held, rules-numbered, lab-numbered, to-51-known}
+use Rattle.judge.proofs.Held.{hold-number}
 use Rattle.judge.proofs.Kept.{places-held}
 use Rattle.placing.proofs.Places.{lab-in-range}
 
--- ---- the number of one LAB: 65 where its rules hold and 65 does not, 0 where all hold
-differs : (n : ℕ) (b : Bool) → elemb n numbersTo64 ≡ true → n ≡ cond b 65 0 → ⊥
-differs n true k e = true≢false (sym (rw e at k))
-differs n false k e = true≢false (sym (rw e at k))
-
-same-test : (c b : Bool) → _≡_ {A = ℕ} (cond c 65 0) (cond b 65 0) → c ≡ b
-same-test true true e = refl
-same-test true false e = absurd (omega arith)
-same-test false true e = absurd (omega arith)
-same-test false false e = refl
-
-module _ (l : ℕ) (c b : Bool) where
-  from-number : (ks : List sheet.Check) → Every (λ k. elemb (k .number) numbersTo64 ≡ true) ks
-      → sheet.firstNumber (ks ++ sheet.check 65 c ∷ []) ≡ cond b 65 0
-      → AllHold (ofLab l ks) × (c ≡ b)
-  unfolding Every AllHold
-  from-number [] h e = (tt, same-test c b e)
-  from-number (k ∷ ks) h e =
-      by-test (k .broken) (λ q. absurd (differs (k .number) b (h .0) (rw q at e)))
-      (λ q. let g = from-number ks (h .1) (rw q at e) in ((q, g .0), g .1))
-
-  to-number : (ks : List sheet.Check) → AllHold (ofLab l ks) → c ≡ b → sheet.firstNumber (ks ++ sheet.check 65 c ∷ []) ≡ cond b 65 0
-  unfolding AllHold
-  to-number [] h q = rw q
-  to-number (k ∷ ks) h q = rw (h .0) (to-number ks (h .1) q)
+-- checks of a LAB that give no number hold
+number-hold : (l : ℕ) (ks : List sheet.Check) → NumberedIn ks → sheet.firstNumber ks ≡ 0 → AllHold (ofLab l ks)
+unfolding Every AllHold
+number-hold l [] n h = tt
+number-hold l (k ∷ ks) n h = by-test (k .broken) (λ q. absurd (n .0 (rw q at h))) (λ q. (q, number-hold l ks (n .1) (rw q at h)))
 
 unset : (n : ℕ) → not (eqb n 0) ≡ false → n ≡ 0
 unset n h = by-test (eqb n 0) (λ q. eqb-true n 0 q) (λ q. absurd (true≢false (rw q at h)))
@@ -114,10 +95,11 @@ module _ (t : Table) (e a : List ℕ) (r l : ℕ) where
   -- the number of LAB j
   number-told : (j : ℕ) (b : Bool)
       → (sheet.firstNumber (rules j) ≡ cond b 65 0) ↔ (AllHold (ofLab j (labRules (cells j))) × (noWay t (cells j) ≡ b))
-  number-told j b =
-      let w = noWay t (cells j) in
-      let ks = labRules (cells j) in
-      (from-number j w b ks (rules-known (cells j)), λ h. to-number j w b ks (h .0) (h .1))
+  unfolding AllHold labNumber
+  number-told j b = (
+    λ q. let g = told t (cells j) b .0 q in (number-hold j (labRules (cells j)) (rules-numbered (cells j)) (g .0), g .1),
+    λ h. told t (cells j) b .1 (hold-number j (labRules (cells j)) (h .0), h .1),
+  )
 
   four-things : AllHold (checksTo51 e a r) → firstBroken (labGroup t e a) .number ≡ 65 → firstBroken (labGroup t e a) .lab ≡ l
       → FourThings t e a r l
