@@ -32,6 +32,7 @@ use Rattle.judge.proofs.Numbers.{lab-numbered}
 use Rattle.judge.proofs.Numbering.{numbered-same, numbered-none}
 use Rattle.judge.proofs.Sound.{Sound}
 
+-- 60 to 65
 pub labs-finds : (t : Table) (e a : List ℕ) → firstBroken (labGroup t e a) ≡ numberedLab (λ l. labNumber t (labCells e a l))
 unfolding labGroup numberedAs labNumber
 labs-finds t e a = labs-find (λ l. labChecks t (labCells e a l)) 1024 (λ l. lab-numbered t (labCells e a l))

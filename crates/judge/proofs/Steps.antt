@@ -65,6 +65,7 @@ module _ (e : List ℕ) (number : ℕ) (head : number ≡ exerciseNumber e) wher
     unfolding malformedAt malformed cell
     first = at ∙ rw (n, c)
 
+    -- 15
     pub exercise-malformed : {r : Finding} → i < cells → r ≡ cond (ltb i cells) (finding 15 i NONE) legal → r ≡ firstBroken (exerciseGroup e)
     exercise-malformed h a =
         rw exercise-finds (then-goes (finding (exerciseNumber e) NONE NONE) _ (sym head ∙ none)

@@ -42,6 +42,7 @@ unfolding countsAll countsWith withCodes inLab
 counts-from k [] = refl
 counts-from k (c ∷ cs) = simp codes-append (counts-from (countsWith k c) cs)
 
+-- 60 to 63
 pub counts-are : (cs : List Record) → countsAll noCounts cs ≡ countsOf cs
 unfolding countsOf
 counts-are cs = counts-from noCounts cs ∙ simp with-all
@@ -89,6 +90,7 @@ reads-low (c ∷ cs) fit z m =
     (reads-low cs (fit .1) z)
     (in-append z (netsAt (inputs c)) (concatMap (λ c. netsAt (inputs c)) cs) m)
 
+-- 64
 pub nets-are : (cs : List Record) → AllFit cs → readMarks (markCells (replicate 1024 0) cs) ≡ length (netsIn cs)
 unfolding markCells netsIn
 nets-are cs fit =

@@ -199,6 +199,7 @@ module _ (cs : List Record) where
           let g = or-false (ltb 1 (distinct (inLab (inUse sclr) cs))) (ltb 1 (distinct (inLab (inUse sload) cs))) h63 in
           (ltb-false 1 (distinct (inLab (inUse sclr) cs)) (g .0), ltb-false 1 (distinct (inLab (inUse sload) cs)) (g .1))
 
+      -- 65
       pub needs-held : needsHeld (countsOf cs) ≡ needs cs
       unfolding needsHeld countsOf needs
       needs-held =

@@ -39,6 +39,7 @@ unfolding labRouteOf
 routed-is ns none = refl
 routed-is ns (some w) = refl
 
+-- 60 to 65
 pub result-is : (t : Table) (cs : List Record) → AllFit cs → resultFrom t (countsOf cs) (length (netsIn cs)) ≡ labResult t cs
 unfolding resultFrom labResult labNumber routeOf noWay
 result-is t cs fit =

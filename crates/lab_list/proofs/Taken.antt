@@ -99,6 +99,7 @@ no-list-long : (cs : List CellRecord) → ltb 32 (length cs) ≡ true → noList
 unfolding noList
 no-list-long cs h = rw h
 
+-- 18
 pub too-long : (t : Table) (cs : List CellRecord) → ltb 32 (length cs) ≡ true → refused 18 ≡ listVerdict t cs
 too-long t cs h = sym (list-refused t cs (no-list-long cs h))
 
@@ -129,6 +130,7 @@ began-marks cs = marks-all noState cs
 taken-is : (t : Table) (rs : List Record) → AllFit rs → resultFrom t (countsAll noCounts rs) (readMarks (markCells (replicate 1024 0) rs)) ≡ labResult t rs
 taken-is t rs fit = rw (counts-are rs, nets-are rs fit) (result-is t rs fit)
 
+-- 18, and 60 to 65 of a list
 pub all-taken : (t : Table) (cs : List CellRecord) → ltb 32 (length cs) ≡ false → finished t (stateAll noState cs) ≡ listVerdict t cs
 all-taken t cs h =
     by-test (anyb unfit (map recordFrom cs))

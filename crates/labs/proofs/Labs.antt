@@ -10,6 +10,7 @@ use Rattle.lab.proofs.Folded.{counts-are, nets-are}
 use Rattle.lab.proofs.Result.{result-is}
 use Rattle.labs.specs.Results.{resultOf}
 
+-- 60 to 65
 pub result-is-lab : (t : Table) (get : ℕ → Record) (is : List ℕ) → AllFit (map get is) → resultOf t get is ≡ labResult t (map get is)
 unfolding resultOf
 result-is-lab t get is fit =

@@ -100,6 +100,7 @@ unfolding markCells
 few-reads t k z cs none h =
     nets-few t k (readMarks (markAll z (concatMap usesOf cs))) (omega (arith, marks-most z (concatMap usesOf cs), reads-most cs))
 
+-- 64: a short list keeps it
 pub short-is : (t : Table) (get : ℕ → Record) (is : List ℕ) → length is ≤ 5 → resultFrom t (countsAll noCounts (map get is)) 0 ≡ resultOf t get is
 unfolding resultOf
 short-is t get is h =

@@ -202,8 +202,10 @@ module _ (e a : List ℕ) (n : ℕ) (keys : List ℕ) (r : ℕ) (found : r ≡ f
   unfolding keyTaken placeTaken
   taken-is i l = any-same _ _ i (λ j b. rw (key-is j (omega arith), key-is i l) (same-key e a j i (all-keyed j (omega arith)) (all-keyed i l)))
 
+  -- 50
   pub taken-first : {m : ℕ} → m ≡ firstFrom (keyTaken keys) 0 n → m ≡ firstFrom (placeTaken e a) 0 n
   taken-first q = q ∙ first-below (keyTaken keys) (placeTaken e a) n taken-is
 
+  -- 50
   pub none-shared : (b : Bool) → b ≡ mayClash keys (replicate 32768 0) 0 n → b ≡ false → n ≡ firstFrom (placeTaken e a) 0 n
   none-shared b q t = taken-first (sym (none-first (keyTaken keys) n (no-clash keys n keyed-are (sym q ∙ t))))

@@ -169,7 +169,7 @@ module _ (t : Table) (ns : List Need) where
       (λ i m. served-low t (getD w i 0) (needAt ns i .role) (h .serving i (let q = h .as-long in omega arith))) (way-is t ns w h))
       (firstOf (filterb (isWay t ns) (entryLists (length t) (length ns)))) (lists-first (length t) (length ns) (isWay t ns))
 
-  -- THE SEARCH FINDS THE EARLIEST WAY
+  -- 65: THE SEARCH FINDS THE EARLIEST WAY
   pub found-earliest : foundWay t ns ≡ earliestWay t ns
   found-earliest = one-first (Way t ns) (foundWay t ns) (earliestWay t ns) (first-way t ns) earliest-first
 

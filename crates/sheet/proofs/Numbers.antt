@@ -43,6 +43,7 @@ module _ (nets : ℕ) (p : List ℕ) where
       (λ r. by-test (keepsRegister nets p) (λ h. rw (l, k, r, h) (two r h)) (λ h. rw (l, k, r, h)))
       (λ r. rw (l, k, r))))
 
+  -- 15
   pub record-number : recordNumber (recordOf nets p) ≡ cond (breaksLayout nets p) (recordNumber Malformed) 0
   record-number = record-by recordNumber 0 (λ k h. refl) (λ k h. refl)
 
@@ -91,6 +92,7 @@ module _ (p : List ℕ) where
   unfolding placedOf
   placed-by f = by-test (not (eqb (length p) 4)) (λ l. rw l) (λ l. by-test (outOfRange p) (λ o. rw (l, o)) (λ o. rw (l, o)))
 
+  -- 26
   pub placed-says : {r : Placed} → r ≡ placedOf p
       → (r ≡ placedOf p)
       × ((placedNumber r ≡ cond (breaksPlace p) (placedNumber OutOfRange) 0) × (placedValues r ≡ cond (breaksPlace p) [] (placeFields p)))
