@@ -48,7 +48,7 @@ fn sheet_number(of_answer: bool) -> u64
     if of_answer { 1 } else { 0 }
 }
 
-// Judges two sheets on the board of document 01. Asks nothing of its caller: sheets of any bytes, a route buffer of any length.
+// Judges two sheets on the board of document 01. Asks nothing of the contents: sheets of any bytes, a route buffer of any length.
 // The route buffer is written where the verdict is 0, all 8,192 bytes of it, and left as it is otherwise.
 #[no_mangle]
 pub extern "C" fn nurimkkot_judge(
@@ -221,7 +221,7 @@ fn tell(result: LabResult, route: &mut [u8; 8]) -> u8
     result.number
 }
 
-// The check of one LAB on a lent list of its cell records, on the board of document 01. Asks nothing of its caller: a list of any length.
+// The check of one LAB on a lent list of its cell records, on the board of document 01. Asks nothing of the contents: a list of any length.
 // The eight route bytes are written whatever the number: 255 each where it is not 0.
 #[no_mangle]
 pub extern "C" fn nurimkkot_check_lab(cells: &[CellRecord], route: &mut [u8; 8]) -> u8
