@@ -3,8 +3,8 @@ use Prim.Native.Nat.{ℕ}
 use mathlib.Core.Bool.{cond}
 use mathlib.Core.List.{List, [], _∷_}
 use lib.ListN.{replicate}
-use Rattle.sheet.specs.Record.{combinationalValues, registerValues}
-use Rattle.sheet.specs.Answer.{placeValues}
+use Rattle.exercise.specs.Record.{combinationalValues, registerValues}
+use Rattle.answer.specs.Answer.{placeValues}
 use Rattle.reader.specs.declared.ExerciseStep.{ExerciseStep}
 use Rattle.reader.specs.declared.ExerciseStep.the-variants as Cell
 use Rattle.reader.specs.declared.AnswerStep.{AnswerStep}

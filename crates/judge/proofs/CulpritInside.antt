@@ -12,10 +12,10 @@ use lib.Dec.{eqb, ltb}
 use borrow.Author.Needs.{needs}
 use borrow.Author.Tests.{eqb-true, eqb-false, ltb-true}
 use Rattle.sheet.specs.Lists.{concatMap, filterb, from, below, firstFrom}
-use Rattle.sheet.specs.Exercise.{cellCount, recordStart}
-use Rattle.sheet.specs.Answer.{placeStart}
-use Rattle.sheet.specs.declared.Record.{Record}
-use Rattle.sheet.specs.declared.Record.the-variants.{Combinational, Register, Malformed}
+use Rattle.exercise.specs.Exercise.{cellCount, recordStart}
+use Rattle.answer.specs.Answer.{placeStart}
+use Rattle.exercise.specs.declared.Record.{Record}
+use Rattle.exercise.specs.declared.Record.the-variants.{Combinational, Register, Malformed}
 use Rattle.sheet.proofs.Laws.{by-test}
 use Rattle.route.specs.Table.{Table}
 use Rattle.route.specs.Way.{isWay, entryLists, ways, earliestWay}

@@ -11,11 +11,11 @@ use borrow.Author.Tests.{eqb-true, leb-false, not-false}
 use Rattle.sheet.specs.Lists.{filterb, elemb, from}
 use Rattle.sheet.specs.Checks.{firstNumber}
 use Rattle.sheet.specs.Signal.{connected, isNet, isBad, isBadOutput}
-use Rattle.sheet.specs.Exercise.{netCount, cellCount, recordPart}
-use Rattle.sheet.specs.Record.{recordAt}
-use Rattle.sheet.specs.declared.RegisterCell.{RegisterCell}
-use Rattle.sheet.specs.declared.Record.{Record}
-use Rattle.sheet.specs.declared.Record.the-variants.{Combinational, Register, Malformed}
+use Rattle.exercise.specs.Exercise.{netCount, cellCount, recordPart}
+use Rattle.exercise.specs.Record.{recordAt}
+use Rattle.exercise.specs.declared.RegisterCell.{RegisterCell}
+use Rattle.exercise.specs.declared.Record.{Record}
+use Rattle.exercise.specs.declared.Record.the-variants.{Combinational, Register, Malformed}
 use Rattle.sheet.proofs.Laws.{by-test}
 use Rattle.lab.specs.Ports.{clk, ena, inputs}
 use Rattle.lab.specs.Counts.{Fit, AllFit}

@@ -8,8 +8,8 @@ use mathlib.Core.List.{List, [], _∷_, _++_}
 use lib.Dec.{eqb, ltb}
 use borrow.Author.Tests.{ne-eqb}
 use Rattle.sheet.specs.Lists.{firstFrom}
-use Rattle.sheet.specs.Exercise.{cellCount, exerciseChecks, exerciseNumber}
-use Rattle.sheet.specs.Answer.{answerChecks, answerNumber, placeCount, wrongAnswerLength}
+use Rattle.exercise.specs.Exercise.{cellCount, exerciseChecks, exerciseNumber}
+use Rattle.answer.specs.Answer.{answerChecks, answerNumber, placeCount, wrongAnswerLength}
 use Rattle.sheet.proofs.Laws.{by-test}
 use Rattle.netlist.specs.Cells.{cellNumbers, malformed, doubleDriver, cellChecks, cellNumber}
 use Rattle.placing.specs.Places.{outOfRangeAt, placeTaken}

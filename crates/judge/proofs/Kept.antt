@@ -9,9 +9,9 @@ use lib.ListN.{length}
 use lib.Dec.{ltb}
 use borrow.Author.Tests.{eqb-true, ltb-false, not-false}
 use Rattle.sheet.specs.Checks.{firstNumber}
-use Rattle.sheet.specs.Exercise.{netCount, cellCount, recordStart, overLimit, wrongExerciseLength}
-use Rattle.sheet.specs.Answer.{placeCount, placeStart, wrongAnswerLength}
-use Rattle.sheet.specs.Record.{isMalformed}
+use Rattle.exercise.specs.Exercise.{netCount, cellCount, recordStart, overLimit, wrongExerciseLength}
+use Rattle.answer.specs.Answer.{placeCount, placeStart, wrongAnswerLength}
+use Rattle.exercise.specs.Record.{isMalformed}
 use Rattle.sheet.proofs.Laws.{or-parts}
 use Rattle.netlist.specs.Cells.{cell, malformed, cellChecks}
 use Rattle.placing.specs.Places.{outOfRangeAt, placeTaken}

@@ -8,9 +8,9 @@ use lib.ListN.{length, getD, replicate}
 use lib.Dec.{eqb}
 use borrow.Author.Tests.{eq-eqb}
 use Rattle.sheet.specs.Lists.{concatMap, filterb, from, below}
-use Rattle.sheet.specs.Exercise.{cellCount}
-use Rattle.sheet.specs.Record.{knownAt}
-use Rattle.sheet.specs.declared.Record.{Record}
+use Rattle.exercise.specs.Exercise.{cellCount}
+use Rattle.exercise.specs.Record.{knownAt}
+use Rattle.exercise.specs.declared.Record.{Record}
 use Rattle.sheet.proofs.Laws.{by-test}
 use Rattle.route.specs.Table.{Table}
 use Rattle.lab.specs.Rules.{labChecks, labNumber, routeOf, labResult}

@@ -2,7 +2,7 @@
 use Prim.Native.Nat.{ℕ}
 use mathlib.Core.Path.{_≡_, ap}
 use mathlib.Core.List.{List}
-use Rattle.sheet.specs.Exercise.{cellCount}
+use Rattle.exercise.specs.Exercise.{cellCount}
 use Rattle.route.specs.Table.{Table}
 use Rattle.judge.specs.declared.Fault.{Fault}
 use Rattle.judge.specs.declared.Fault.the-variants.{Call, ExerciseHead, Record, AnswerHead, Place, Lab}

@@ -8,10 +8,10 @@ use lib.Dec.{eqb}
 use borrow.Author.Tests.{eqb-true}
 use borrow.Author.Needs.{needs}
 use Rattle.sheet.specs.Lists.{concatMap, elemb, below}
-use Rattle.sheet.specs.Exercise.{exerciseChecks}
+use Rattle.exercise.specs.Exercise.{exerciseChecks}
 use Rattle.sheet.proofs.Laws.{by-test}
-use Rattle.sheet.specs.declared.Record.{Record}
-use Rattle.sheet.specs.declared.Record.the-variants.{Combinational, Register, Malformed}
+use Rattle.exercise.specs.declared.Record.{Record}
+use Rattle.exercise.specs.declared.Record.the-variants.{Combinational, Register, Malformed}
 use Rattle.route.specs.Table.{Table}
 use Rattle.lab.specs.Rules.{labRules, labChecks}
 use Rattle.netlist.specs.Cells.{cell, cellNumbers, checksOf, cellChecks}

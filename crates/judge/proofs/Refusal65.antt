@@ -10,8 +10,8 @@ use lib.Dec.{eqb, ltb}
 use borrow.Author.Tests.{eqb-true, ne-eqb, lt-ltb}
 use Rattle.sheet.specs.Lists.{concatMap, filterb, from, below, firstFrom}
 use Rattle.sheet.specs.Checks as sheet
-use Rattle.sheet.specs.Exercise.{cellCount}
-use Rattle.sheet.specs.declared.Record.{Record}
+use Rattle.exercise.specs.Exercise.{cellCount}
+use Rattle.exercise.specs.declared.Record.{Record}
 use Rattle.sheet.proofs.Laws.{by-test}
 use Rattle.route.specs.Table.{Table}
 use Rattle.route.specs.Way.{Way}

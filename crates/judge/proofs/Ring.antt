@@ -7,9 +7,9 @@ use mathlib.Core.List.{List, _++_}
 use lib.Dec.{eqb, ltb}
 use borrow.Author.Tests.{eqb-true, eqb-false}
 use Rattle.sheet.specs.Lists.{anyb, from, firstFrom}
-use Rattle.sheet.specs.Exercise.{cellCount}
-use Rattle.sheet.specs.declared.CombinationalCell.{CombinationalCell}
-use Rattle.sheet.specs.declared.Record.the-variants.{Combinational}
+use Rattle.exercise.specs.Exercise.{cellCount}
+use Rattle.exercise.specs.declared.CombinationalCell.{CombinationalCell}
+use Rattle.exercise.specs.declared.Record.the-variants.{Combinational}
 use Rattle.sheet.proofs.Laws.{by-test}
 use Rattle.route.specs.Table.{Table}
 use Rattle.netlist.specs.Cells.{cell, cellNumbers, feeds}

@@ -12,7 +12,7 @@ use lib.Seq.{getD-append-add}
 use lib.Dec.{eqb}
 use borrow.Author.Tests.{eqb-true, ltb-true}
 use Rattle.sheet.specs.Lists.{concatMap, from, below, firstFrom}
-use Rattle.sheet.specs.Exercise.{cellCount}
+use Rattle.exercise.specs.Exercise.{cellCount}
 use Rattle.sheet.proofs.First.{some-below}
 use Rattle.sheet.proofs.Scan.{any-below}
 use Rattle.route.specs.declared.Need.{Need}

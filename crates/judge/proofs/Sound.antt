@@ -9,13 +9,13 @@ use lib.Dec.{eqb, ltb}
 use borrow.Author.Tests.{ltb-false, eqb-true, eq-eqb}
 use Rattle.sheet.specs.Lists.{firstFrom}
 use Rattle.sheet.specs.Signal.{isNet, isInverted}
-use Rattle.sheet.specs.Exercise.{netCount, cellCount, overLimit, exerciseChecks, exerciseNumber}
-use Rattle.sheet.specs.declared.Record.{Record}
-use Rattle.sheet.specs.declared.Record.the-variants.{Combinational, Register, Malformed}
+use Rattle.exercise.specs.Exercise.{netCount, cellCount, overLimit, exerciseChecks, exerciseNumber}
+use Rattle.exercise.specs.declared.Record.{Record}
+use Rattle.exercise.specs.declared.Record.the-variants.{Combinational, Register, Malformed}
 use Rattle.sheet.proofs.Laws.{by-test, or-parts}
 use Rattle.netlist.specs.Cells.{cell, malformed, doubleDriver, cellNumber}
-use Rattle.sheet.specs.Record.{knownAt}
-use Rattle.sheet.proofs.Known.{known-is}
+use Rattle.exercise.specs.Record.{knownAt}
+use Rattle.exercise.proofs.Known.{known-is}
 use Rattle.netlist.specs.Tables.{NONE, cellFor, numberAt, readsBelow, readersBelow, driversBelow}
 use Rattle.netlist.proofs.Same.{reads-same, readers-same, drivers-same}
 use Rattle.netlist.proofs.Carry.{fed-by, number-is, reads, readers, drivers}

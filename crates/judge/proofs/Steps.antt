@@ -11,8 +11,8 @@ use lib.Dec.{eqb, ltb}
 use borrow.Author.Tests.{eq-eqb, ne-eqb, eqb-true, eqb-false, not-true, lt-ltb, le-ltb}
 use Rattle.sheet.specs.Lists.{concatMap, filterb, elemb, from, below, firstFrom}
 use Rattle.sheet.specs.Bytes.{beginsAt}
-use Rattle.sheet.specs.Exercise.{netCount, cellCount, exerciseNumber}
-use Rattle.sheet.specs.Answer.{answerNumber, placeCount, wrongAnswerLength, placeStart}
+use Rattle.exercise.specs.Exercise.{netCount, cellCount, exerciseNumber}
+use Rattle.answer.specs.Answer.{answerNumber, placeCount, wrongAnswerLength, placeStart}
 use Rattle.route.specs.Table.{Table, houseBoard}
 use Rattle.lab.specs.Rules.{routeOf}
 use Rattle.sheet.proofs.Laws.{by-test}
@@ -26,8 +26,8 @@ use Rattle.labs.specs.Results.{resultAt, brokenLab, lowestBroken, hasCells, put
 use Rattle.labs.specs.declared.LowestBroken.{LowestBroken}
 use Rattle.labs.proofs.Passing.{lowest-lab, lowest-number}
 use Rattle.labs.proofs.Rows.{rows-long}
-use Rattle.sheet.specs.Record.{knownAt}
-use Rattle.sheet.specs.declared.Record.{Record}
+use Rattle.exercise.specs.Record.{knownAt}
+use Rattle.exercise.specs.declared.Record.{Record}
 use Rattle.judge.specs.declared.Fault.{Fault}
 use Rattle.judge.specs.declared.Finding.{Finding}
 use Rattle.judge.specs.declared.Part.{Part}

@@ -7,8 +7,8 @@ use mathlib.Core.Bool.{true, false, cond}
 use mathlib.Core.List.{List, [], _∷_, _++_}
 use lib.ListN.{length, getD}
 use Rattle.sheet.specs.Lists.{elemb}
-use Rattle.sheet.specs.Exercise.{cellCount, recordStart}
-use Rattle.sheet.specs.Answer.{apprentice, placeStart}
+use Rattle.exercise.specs.Exercise.{cellCount, recordStart}
+use Rattle.answer.specs.Answer.{apprentice, placeStart}
 use Rattle.placing.specs.Places.{labAt}
 use Rattle.route.specs.declared.Need.{Need}
 use Rattle.route.specs.Table.{Table}

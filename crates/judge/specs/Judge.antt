@@ -8,10 +8,10 @@ use lib.Dec.{eqb}
 use Rattle.sheet.specs.Lists.{concatMap, anyb, elemb, below}
 use Rattle.sheet.specs.Checks as sheet
 use Rattle.sheet.specs.Bytes.{partAt, beginsAt}
-use Rattle.sheet.specs.Exercise.{cellCount, exerciseChecks, recordStart}
-use Rattle.sheet.specs.Answer.{apprentice, placeCount, answerChecks, wrongAnswerLength, placeStart}
-use Rattle.sheet.specs.declared.Record.{Record}
-use Rattle.sheet.specs.declared.Record.the-variants.{Combinational, Register, Malformed}
+use Rattle.exercise.specs.Exercise.{cellCount, exerciseChecks, recordStart}
+use Rattle.answer.specs.Answer.{apprentice, placeCount, answerChecks, wrongAnswerLength, placeStart}
+use Rattle.exercise.specs.declared.Record.{Record}
+use Rattle.exercise.specs.declared.Record.the-variants.{Combinational, Register, Malformed}
 use Rattle.route.specs.Table.{Table}
 use Rattle.lab.specs.Rules.{labChecks, routeOf}
 use Rattle.netlist.specs.Cells.{cell, cellNumbers, malformed, doubleDriver, feeds, cellChecks}

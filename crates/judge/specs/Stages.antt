@@ -4,7 +4,7 @@ use mathlib.Core.Bool.{cond, not}
 use mathlib.Core.List.{List, [], _∷_}
 use lib.Dec.{eqb, ltb}
 use Rattle.sheet.specs.Lists.{firstFrom}
-use Rattle.sheet.specs.declared.Record.{Record}
+use Rattle.exercise.specs.declared.Record.{Record}
 use Rattle.placing.specs.Places.{placeTaken, detachedAt}
 use Rattle.netlist.specs.Tables.{NONE}
 use Rattle.judge.specs.declared.Finding.{Finding}

@@ -9,9 +9,9 @@ ghost use lib.ListN.{length};
 ghost use lib.Dec.{eqb, ltb};
 ghost use Rattle.sheet.specs.Lists.{concatMap, elemb, below};
 ghost use Rattle.sheet.specs.Bytes.{beginsAt};
-ghost use Rattle.sheet.specs.Exercise.{recordStart};
-ghost use Rattle.sheet.specs.Record.{knownAt};
-ghost use Rattle.sheet.specs.Answer.{placeStart};
+ghost use Rattle.exercise.specs.Exercise.{recordStart};
+ghost use Rattle.exercise.specs.Record.{knownAt};
+ghost use Rattle.answer.specs.Answer.{placeStart};
 ghost use Rattle.route.specs.Table.{houseBoard};
 ghost use Rattle.lab.specs.Rules.{routeOf};
 ghost use Rattle.judge.specs.Judge.{finding, legal, ofExercise, ofAnswer, exerciseGroup, answerGroup, cellGroup, placeGroup, labGroup, checksTo51, labCells, firstBroken, apprenticeOf, lowestIn, culpritOf, verdictOf, judged, bytesOf, addressOf, routed};
@@ -102,12 +102,12 @@ fn at_cell(number: u8, i: CellNumber, cells: u16) -> Finding
 fn exercise_finding(exercise: &[u8]) -> Finding
     ensures { λ r. ⌜ r ≡ firstBroken (exerciseGroup (now (exercise .entry))) ⌝ }
 {
-    let number = sheet::exercise_number(exercise);
+    let number = exercise::exercise_number(exercise);
     if number != 0 {
         return plain(number);
     }
-    let nets = sheet::net_count(exercise);
-    let cells = sheet::cell_count(exercise);
+    let nets = exercise::net_count(exercise);
+    let cells = exercise::cell_count(exercise);
     let malformed = netlist::first_malformed(exercise, nets, cells);
     if malformed < cells {
         return at_cell(15, CellNumber(malformed), cells);
@@ -123,15 +123,15 @@ fn exercise_finding(exercise: &[u8]) -> Finding
 fn answer_finding(exercise: &[u8], answer: &[u8]) -> Finding
     ensures { λ r. ⌜ r ≡ firstBroken (answerGroup (now (exercise .entry)) (now (answer .entry))) ⌝ }
 {
-    let number = sheet::answer_number(answer);
+    let number = answer::answer_number(answer);
     if number != 0 {
         return plain(number);
     }
-    let cells = sheet::cell_count(exercise);
-    if sheet::place_count(answer) != cells {
+    let cells = exercise::cell_count(exercise);
+    if answer::place_count(answer) != cells {
         return plain(24);
     }
-    if sheet::wrong_answer_length(answer) {
+    if answer::wrong_answer_length(answer) {
         return plain(25);
     }
     at_cell(
@@ -153,7 +153,7 @@ fn cell_finding(
 {
     let i = netlist::first_broken_cell(exercise, cells, reads, readers, drivers);
     if i < cells {
-        let cell = sheet::known_record_at(exercise, CellNumber(i));
+        let cell = exercise::known_record_at(exercise, CellNumber(i));
         return at_cell(
             netlist::cell_number(cell, CellNumber(i), reads, readers, drivers),
             CellNumber(i),
@@ -183,7 +183,7 @@ fn cells_finding(exercise: &[u8], answer: &[u8]) -> Finding
     requires { ⌜ firstBroken (exerciseGroup (now exercise)) .number ≡ 0 ⌝ }
     ensures { λ r. ⌜ r ≡ firstBroken (cellGroup (now (exercise .entry)) ++ placeGroup (now (exercise .entry)) (now (answer .entry))) ⌝ }
 {
-    let cells = sheet::cell_count(exercise);
+    let cells = exercise::cell_count(exercise);
     let mut reads = [0u8; 1024];
     let mut readers = [NONE; 1024];
     let mut drivers = [NONE; 1024];
@@ -231,7 +231,7 @@ fn judge_labs(table: EntryTable, exercise: &[u8], answer: &[u8], route: &mut [u8
     ensures found { λ r. ⌜ r ≡ firstBroken (labGroup table (now (exercise .entry)) (now (answer .entry))) ⌝ }
     ensures written { λ r. ⌜ now (route .exit) ≡ cond (eqb (r .number) 0) (concatMap (λ l. routeOf table (labCells (now (exercise .entry)) (now (answer .entry)) l)) (below 1024)) (now (route .entry)) ⌝ }
 {
-    let cells = sheet::cell_count(exercise);
+    let cells = exercise::cell_count(exercise);
     let mut first = [NONE; 1024];
     let mut next = [NONE; 512];
     labs::link_cells(answer, cells, &mut first, &mut next);
@@ -269,7 +269,7 @@ fn apprentice_for(answer: &[u8], number: u8) -> u32
     if is_among(number, &NAMELESS_NUMBERS) {
         return 0;
     }
-    sheet::apprentice(answer)
+    answer::apprentice(answer)
 }
 
 // The lowest cell that the answer puts into a LAB.
@@ -297,8 +297,8 @@ fn record_of(cell: CellNumber) -> Part
 {
     Part {
         of_answer: false,
-        start: sheet::EXERCISE_HEADER + sheet::RECORD_SIZE * (cell.0 as usize),
-        size: sheet::RECORD_SIZE,
+        start: exercise::EXERCISE_HEADER + exercise::RECORD_SIZE * (cell.0 as usize),
+        size: exercise::RECORD_SIZE,
     }
 }
 
@@ -307,8 +307,8 @@ fn place_of(cell: CellNumber) -> Part
 {
     Part {
         of_answer: true,
-        start: sheet::ANSWER_HEADER + sheet::PLACE_SIZE * (cell.0 as usize),
-        size: sheet::PLACE_SIZE,
+        start: answer::ANSWER_HEADER + answer::PLACE_SIZE * (cell.0 as usize),
+        size: answer::PLACE_SIZE,
     }
 }
 
@@ -351,7 +351,7 @@ fn culprit_of(exercise: &[u8], answer: &[u8], f: Finding) -> Part
             return Part {
                 of_answer: false,
                 start: 0,
-                size: smaller(sheet::EXERCISE_HEADER, exercise.len()),
+                size: smaller(exercise::EXERCISE_HEADER, exercise.len()),
             };
         }
         Fault::Record => return record_of(CellNumber(f.cell)),
@@ -359,12 +359,12 @@ fn culprit_of(exercise: &[u8], answer: &[u8], f: Finding) -> Part
             return Part {
                 of_answer: true,
                 start: 0,
-                size: smaller(sheet::ANSWER_HEADER, answer.len()),
+                size: smaller(answer::ANSWER_HEADER, answer.len()),
             };
         }
         Fault::Place => return place_of(CellNumber(f.cell)),
         Fault::Lab => {
-            return place_of(CellNumber(lowest_in(answer, sheet::cell_count(exercise), f.lab)));
+            return place_of(CellNumber(lowest_in(answer, exercise::cell_count(exercise), f.lab)));
         }
     }
 }

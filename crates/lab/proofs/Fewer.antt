@@ -4,8 +4,8 @@ use Prim.Native.Nat.{ℕ, _≤_}
 use mathlib.Core.Path.{ap}
 use mathlib.Core.Logic.{inl, inr, ⊎-elim}
 use mathlib.Core.List.{List, [], _∷_, _++_, map, Sublistᴰ, Sublistᴰ·slnil, Sublistᴰ·cons, Sublistᴰ·cons-cons, Sublistᴰ·append}
-use Rattle.sheet.specs.declared.RegisterCell.{RegisterCell}
-use Rattle.sheet.specs.declared.Record.{Record}
+use Rattle.exercise.specs.declared.RegisterCell.{RegisterCell}
+use Rattle.exercise.specs.declared.Record.{Record}
 use Rattle.distinct.specs.Rising.{distinct}
 use Rattle.distinct.proofs.Rising.{In, rising-part, distinct-mono}
 use Rattle.route.specs.Table.{Table, CLK, ENA, ACLR, SCLR, SLOAD}

@@ -8,7 +8,7 @@ use native.Mathlib.Omega.{arith}
 use lib.ListN.{length, replicate}
 use Rattle.sheet.specs.Lists.{concatMap, filterb}
 use Rattle.sheet.specs.Signal.{isNet, netOf}
-use Rattle.sheet.specs.declared.Record.{Record}
+use Rattle.exercise.specs.declared.Record.{Record}
 use Rattle.distinct.specs.Nets.{Use, reads, drives, netsRead, netsDriven, markAll, readMarks}
 use Rattle.distinct.specs.UpToTwo.{withCode, withCodes}
 use Rattle.distinct.specs.declared.UpToTwo.{UpToTwo}
@@ -17,7 +17,7 @@ use Rattle.distinct.proofs.Codes.{with-all}
 use Rattle.distinct.proofs.Nets.{in-elem, mark-append, ones-are}
 use Rattle.lab.specs.declared.Counts.{Counts}
 use Rattle.lab.specs.Ports.{ena, sclr, sload, clock, clockPair, clear, inUse, needed, inLab, inputs, netsAt, netsIn}
-use Rattle.sheet.specs.Record.{outputs}
+use Rattle.exercise.specs.Record.{outputs}
 use Rattle.lab.specs.Counts.{noCounts, countsWith, countsAll, countsOf, usesOf, markCells, AllFit}
 
 -- ---- counts

@@ -11,9 +11,9 @@ use lib.Dec.{eqb, ltb}
 use borrow.Author.Tests.{ltb-false, leb-true, le-leb, ne-eqb, lt-ltb}
 use Rattle.sheet.specs.Lists.{filterb}
 use Rattle.sheet.specs.Signal.{GND, connected, isNet}
-use Rattle.sheet.specs.declared.RegisterCell.{RegisterCell}
-use Rattle.sheet.specs.declared.Record.{Record}
-use Rattle.sheet.specs.declared.Record.the-variants.{Combinational, Register, Malformed}
+use Rattle.exercise.specs.declared.RegisterCell.{RegisterCell}
+use Rattle.exercise.specs.declared.Record.{Record}
+use Rattle.exercise.specs.declared.Record.the-variants.{Combinational, Register, Malformed}
 use Rattle.sheet.proofs.Laws.{by-test}
 use Rattle.distinct.specs.Rising.{rising, distinct}
 use Rattle.distinct.specs.UpToTwo.{upToTwo}

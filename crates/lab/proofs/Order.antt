@@ -6,9 +6,9 @@ use mathlib.Core.Logic.{inl, inr, ⊎-elim}
 use mathlib.Core.Bool.{Bool, true, false, not, true≢false}
 use mathlib.Core.List.{List, [], _∷_, _++_, List·Permᴰ, List·Permᴰ·nil, List·Permᴰ·cons, List·Permᴰ·swap, List·Permᴰ·trans, Permᴰ·symm}
 use Rattle.sheet.specs.Lists.{concatMap, filterb, elemb}
-use Rattle.sheet.specs.Record.{outputs}
-use Rattle.sheet.specs.declared.RegisterCell.{RegisterCell}
-use Rattle.sheet.specs.declared.Record.{Record}
+use Rattle.exercise.specs.Record.{outputs}
+use Rattle.exercise.specs.declared.RegisterCell.{RegisterCell}
+use Rattle.exercise.specs.declared.Record.{Record}
 use Rattle.sheet.proofs.Laws.{by-test}
 use Rattle.distinct.specs.Rising.{rising}
 use Rattle.distinct.proofs.Rising.{In, rising-same}

@@ -5,8 +5,8 @@ use mathlib.Core.List.{List, [], _∷_, _++_}
 use mathlib.Core.Option.{Option}
 use lib.ListN.{length}
 use Rattle.sheet.specs.Checks.{check, firstNumber}
-use Rattle.sheet.specs.Record.{outputs}
-use Rattle.sheet.specs.declared.Record.{Record}
+use Rattle.exercise.specs.Record.{outputs}
+use Rattle.exercise.specs.declared.Record.{Record}
 use Rattle.route.specs.Table.{houseBoard}
 use Rattle.route.specs.Search.{pick, searchFrom, foundWay}
 use Rattle.route.proofs.AllWays.{found-earliest}

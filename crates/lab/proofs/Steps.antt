@@ -9,9 +9,9 @@ use lib.ListN.{length, length-append, length-map}
 use lib.Dec.{eqb, ltb}
 use Rattle.sheet.specs.Lists.{filterb}
 use Rattle.sheet.specs.Signal.{isNet, netOf}
-use Rattle.sheet.specs.declared.Record.{Record}
-use Rattle.sheet.specs.declared.Record.the-variants.{Combinational, Register, Malformed}
-use Rattle.sheet.proofs.Record.{the-type}
+use Rattle.exercise.specs.declared.Record.{Record}
+use Rattle.exercise.specs.declared.Record.the-variants.{Combinational, Register, Malformed}
+use Rattle.exercise.proofs.Record.{the-type}
 use Rattle.sheet.proofs.Laws.{by-test}
 use Rattle.distinct.specs.declared.UpToTwo.{UpToTwo}
 use Rattle.distinct.specs.UpToTwo.{withCodes, codesOf}
@@ -26,7 +26,7 @@ use Rattle.route.specs.Route.{labRouteOf}
 use Rattle.route.proofs.NeedLists.{no-needs-of, list-needs, with-need}
 use Rattle.lab.specs.declared.Counts.{Counts}
 use Rattle.lab.specs.Ports.{inputs, netsAt}
-use Rattle.sheet.specs.Record.{outputs}
+use Rattle.exercise.specs.Record.{outputs}
 use Rattle.lab.specs.Rules.{needsOfRole}
 use Rattle.lab.specs.Counts.{countsWith, usesOf, netCodes, onlyCode, brokenBy, withNeeds, needsHeld, routedResult, resultFrom}
 

@@ -8,9 +8,9 @@ use lib.Dec.{eqb, ltb}
 use Rattle.sheet.specs.Lists.{concatMap, filterb, elemb}
 use Rattle.sheet.specs.Checks.{Check, check, firstNumber}
 use Rattle.sheet.specs.Signal.{connected, isNet}
-use Rattle.sheet.specs.declared.RegisterCell.{RegisterCell}
-use Rattle.sheet.specs.declared.Record.{Record}
-use Rattle.sheet.specs.declared.Record.the-variants.{Combinational, Register, Malformed}
+use Rattle.exercise.specs.declared.RegisterCell.{RegisterCell}
+use Rattle.exercise.specs.declared.Record.{Record}
+use Rattle.exercise.specs.declared.Record.the-variants.{Combinational, Register, Malformed}
 use Rattle.distinct.specs.Rising.{rising}
 use Rattle.distinct.specs.Nets.{Use, reads, drives, markAll}
 use Rattle.distinct.specs.UpToTwo.{noCode, withCodes, upToTwo, codesOf}
@@ -24,7 +24,7 @@ use Rattle.route.specs.Route.{labRouteOf}
 use Rattle.lab.specs.declared.Counts.{Counts}
 use Rattle.lab.specs.declared.LabResult.{LabResult}
 use Rattle.lab.specs.Ports.{clk, ena, aclr, sclr, sload, clock, clockPair, clear, inUse, needed, ofRegister, inLab, inputs, netsAt}
-use Rattle.sheet.specs.Record.{outputs}
+use Rattle.exercise.specs.Record.{outputs}
 use Rattle.lab.specs.Rules.{needsOfRole}
 
 abbrev pub noCounts : Counts

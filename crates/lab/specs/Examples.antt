@@ -6,8 +6,8 @@ use mathlib.Core.Option.{Option, none, some}
 use lib.ListN.{length}
 use Rattle.sheet.specs.Signal.{UNCONNECTED, GND, VCC}
 use Rattle.sheet.specs.declared.Signal.{Signal}
-use Rattle.sheet.specs.declared.Record.{Record}
-use Rattle.sheet.specs.declared.Record.the-variants.{Register}
+use Rattle.exercise.specs.declared.Record.{Record}
+use Rattle.exercise.specs.declared.Record.the-variants.{Register}
 use Rattle.distinct.specs.Rising.{distinct}
 use Rattle.route.specs.Table.{houseBoard}
 use Rattle.route.specs.Way.{earliestWay}

@@ -6,10 +6,10 @@ use mathlib.Core.List.{List, [], _∷_, map}
 use lib.Dec.{eqb}
 use Rattle.sheet.specs.Lists.{concatMap, filterb}
 use Rattle.sheet.specs.Signal.{UNCONNECTED, GND, VCC, connected, isNet, netOf}
-use Rattle.sheet.specs.Record.{outputs}
-use Rattle.sheet.specs.declared.RegisterCell.{RegisterCell}
-use Rattle.sheet.specs.declared.Record.{Record}
-use Rattle.sheet.specs.declared.Record.the-variants.{Combinational, Register, Malformed}
+use Rattle.exercise.specs.Record.{outputs}
+use Rattle.exercise.specs.declared.RegisterCell.{RegisterCell}
+use Rattle.exercise.specs.declared.Record.{Record}
+use Rattle.exercise.specs.declared.Record.the-variants.{Combinational, Register, Malformed}
 use Rattle.distinct.specs.Nets.{entering}
 
 -- the codes at the control ports of a register

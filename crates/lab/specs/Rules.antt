@@ -7,8 +7,8 @@ use mathlib.Core.Option.{Option, none, some}
 use lib.ListN.{length, replicate}
 use lib.Dec.{eqb, ltb}
 use Rattle.sheet.specs.Checks.{Check, check, firstNumber}
-use Rattle.sheet.specs.declared.RegisterCell.{RegisterCell}
-use Rattle.sheet.specs.declared.Record.{Record}
+use Rattle.exercise.specs.declared.RegisterCell.{RegisterCell}
+use Rattle.exercise.specs.declared.Record.{Record}
 use Rattle.distinct.specs.Rising.{rising, distinct}
 use Rattle.route.specs.declared.Need.{Need}
 use Rattle.route.specs.declared.LabRoute.{LabRoute}

@@ -11,7 +11,7 @@ use lib.Dec.{eqb, ltb}
 use Rattle.sheet.specs.Lists.{concatMap, from, below, firstFrom}
 use Rattle.sheet.specs.Checks as sheet
 use Rattle.sheet.specs.Bytes.{partAt}
-use Rattle.sheet.specs.Exercise.{cellCount}
+use Rattle.exercise.specs.Exercise.{cellCount}
 use Rattle.sheet.proofs.Laws.{by-test}
 use Rattle.route.specs.Table.{Table}
 use Rattle.route.specs.Way.{earliestWay}

@@ -11,7 +11,7 @@ use lib.Dec.{eqb, ltb}
 use borrow.Author.Tests.{ne-eqb, eq-eqb}
 use Rattle.sheet.specs.Lists.{anyb}
 use Rattle.sheet.specs.Checks.{firstNumber}
-use Rattle.sheet.specs.declared.Record.{Record}
+use Rattle.exercise.specs.declared.Record.{Record}
 use Rattle.sheet.proofs.Laws.{by-test, or-parts}
 use Rattle.route.specs.Table.{Table}
 use Rattle.route.specs.Way.{Way}

@@ -8,8 +8,8 @@ use lib.ListN.{length}
 use lib.Dec.{eqb}
 use borrow.Author.Tests.{eqb-true, eq-eqb}
 use Rattle.sheet.specs.Lists.{below, firstFrom}
-use Rattle.sheet.specs.Exercise.{cellCount, recordPart, netCount}
-use Rattle.sheet.specs.Record.{recordOf, recordAt, isMalformed, kindOf}
+use Rattle.exercise.specs.Exercise.{cellCount, recordPart, netCount}
+use Rattle.exercise.specs.Record.{recordOf, recordAt, isMalformed, kindOf}
 use Rattle.sheet.proofs.Laws.{by-test, and-parts}
 use Rattle.sheet.proofs.Scan.{any-below}
 use Rattle.distinct.specs.Rising.{rising, distinct}

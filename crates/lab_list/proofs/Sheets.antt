@@ -12,12 +12,12 @@ use borrow.Author.Tests.{lt-leb, le-ltb}
 use Rattle.sheet.specs.Lists.{anyb}
 use Rattle.sheet.specs.Checks.{firstNumber}
 use Rattle.sheet.specs.Signal.{connected, isNet, netOf, isInverted, isBad, isBadOutput}
-use Rattle.sheet.specs.Exercise.{netCount, recordPart}
-use Rattle.sheet.specs.Record.{recordOf, recordAt, isMalformed, kindOf, flagOf, codeAt, combinationalOf, registerOf, badCombinational, badRegister, badTail, keepsCombinational, keepsRegister}
-use Rattle.sheet.specs.declared.CombinationalCell.{CombinationalCell}
-use Rattle.sheet.specs.declared.RegisterCell.{RegisterCell}
-use Rattle.sheet.specs.declared.Record.{Record}
-use Rattle.sheet.specs.declared.Record.the-variants.{Combinational, Register, Malformed}
+use Rattle.exercise.specs.Exercise.{netCount, recordPart}
+use Rattle.exercise.specs.Record.{recordOf, recordAt, isMalformed, kindOf, flagOf, codeAt, combinationalOf, registerOf, badCombinational, badRegister, badTail, keepsCombinational, keepsRegister}
+use Rattle.exercise.specs.declared.CombinationalCell.{CombinationalCell}
+use Rattle.exercise.specs.declared.RegisterCell.{RegisterCell}
+use Rattle.exercise.specs.declared.Record.{Record}
+use Rattle.exercise.specs.declared.Record.the-variants.{Combinational, Register, Malformed}
 use Rattle.sheet.proofs.Laws.{by-test, or-parts}
 use Rattle.distinct.proofs.Rising.{In}
 use Rattle.netlist.specs.Cells.{cell, checksOf, cellChecks}

@@ -10,9 +10,9 @@ use lib.Dec.{ltb}
 use borrow.Author.Tests.{eqb-true, not-false}
 use Rattle.sheet.specs.Lists.{anyb}
 use Rattle.sheet.specs.Checks.{firstNumber}
-use Rattle.sheet.specs.declared.RegisterCell.{RegisterCell}
-use Rattle.sheet.specs.declared.Record.{Record}
-use Rattle.sheet.specs.declared.Record.the-variants.{Register}
+use Rattle.exercise.specs.declared.RegisterCell.{RegisterCell}
+use Rattle.exercise.specs.declared.Record.{Record}
+use Rattle.exercise.specs.declared.Record.the-variants.{Register}
 use Rattle.sheet.proofs.Laws.{by-test, or-parts}
 use Rattle.distinct.specs.Nets.{markAll, readMarks}
 use Rattle.route.specs.Table.{Table}

@@ -5,7 +5,7 @@ use mathlib.Core.Path.{_≡_}
 use mathlib.Core.List.{List, [], _∷_, List·Permᴰ}
 use lib.ListN.{length}
 use Rattle.sheet.specs.Bytes.{partAt}
-use Rattle.sheet.specs.Exercise.{cellCount, recordPart}
+use Rattle.exercise.specs.Exercise.{cellCount, recordPart}
 use Rattle.route.specs.Table.{Table}
 use Rattle.lab.specs.Rules.{labResult}
 use Rattle.labs.specs.Members.{members}

@@ -7,7 +7,7 @@ use mathlib.Core.Bool.{true, false}
 use mathlib.Core.List.{List, map, List·Permᴰ}
 use lib.ListN.{replicate}
 use Rattle.sheet.specs.Checks.{firstNumber}
-use Rattle.sheet.specs.declared.Record.{Record}
+use Rattle.exercise.specs.declared.Record.{Record}
 use Rattle.route.specs.declared.Need.{Need}
 use Rattle.route.specs.Table.{Table}
 use Rattle.route.specs.Way.{Way}

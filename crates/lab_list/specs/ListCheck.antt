@@ -7,9 +7,9 @@ use lib.ListN.{length, getD, replicate}
 use lib.Dec.{eqb, ltb}
 use Rattle.sheet.specs.Lists.{anyb}
 use Rattle.sheet.specs.Checks.{check, firstNumber}
-use Rattle.sheet.specs.Record.{recordOf}
-use Rattle.sheet.specs.declared.Record.{Record}
-use Rattle.sheet.specs.declared.Record.the-variants.{Combinational, Register, Malformed}
+use Rattle.exercise.specs.Record.{recordOf}
+use Rattle.exercise.specs.declared.Record.{Record}
+use Rattle.exercise.specs.declared.Record.the-variants.{Combinational, Register, Malformed}
 use Rattle.distinct.specs.Nets.{markAll, readMarks}
 use Rattle.route.specs.Table.{Table}
 use Rattle.lab.specs.declared.LabResult.{LabResult}

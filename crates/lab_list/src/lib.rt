@@ -1,6 +1,6 @@
+use exercise::Record;
 use lab::Counts;
 use lab::LabResult;
-use sheet::Record;
 ghost use mathlib.Core.Path.{_≡_};
 ghost use Rattle.route.specs.Table.{houseBoard};
 ghost use Rattle.lab.specs.Counts.{refused};
@@ -71,7 +71,7 @@ fn record_from(cell: CellRecord) -> Record
     ensures { λ r. ⌜ r ≡ recordFrom cell ⌝ }
 {
     let bytes = bytes_of(cell);
-    sheet::decode_record(&bytes, sheet::MAX_NETS)
+    exercise::decode_record(&bytes, exercise::MAX_NETS)
 }
 
 // Whether a record breaks the layout or one of 30 to 35.

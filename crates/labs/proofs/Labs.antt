@@ -2,7 +2,7 @@
 use Prim.Native.Nat.{ℕ}
 use mathlib.Core.Path.{_≡_}
 use mathlib.Core.List.{List, map}
-use Rattle.sheet.specs.declared.Record.{Record}
+use Rattle.exercise.specs.declared.Record.{Record}
 use Rattle.route.specs.Table.{Table}
 use Rattle.lab.specs.Rules.{labResult}
 use Rattle.lab.specs.Counts.{AllFit}

@@ -8,7 +8,7 @@ use mathlib.Core.List.{List}
 use lib.ListN.{length, getD, replicate}
 use borrow.Author.Tests.{eq-eqb, ne-eqb, lt-ltb, le-ltb, ltb-false}
 use Rattle.sheet.specs.Lists.{firstFrom}
-use Rattle.sheet.specs.declared.Record.{Record}
+use Rattle.exercise.specs.declared.Record.{Record}
 use Rattle.sheet.proofs.Scan.{Scanned, scan-starts, scan-goes-at, scan-stops-at, scan-ends}
 use Rattle.route.specs.Table.{Table}
 use Rattle.lab.specs.declared.LabResult.{LabResult}

@@ -11,9 +11,9 @@ use lib.Dec.{eqb, leb}
 use borrow.Author.Tests.{lt-ltb, le-ltb, le-leb, lt-leb, leb-true}
 use Rattle.sheet.specs.Lists.{filterb, concatMap}
 use Rattle.sheet.specs.Signal.{isNet, netOf}
-use Rattle.sheet.specs.declared.Record.{Record}
-use Rattle.sheet.specs.declared.Record.the-variants.{Combinational, Register, Malformed}
-use Rattle.sheet.specs.Record.{outputs}
+use Rattle.exercise.specs.declared.Record.{Record}
+use Rattle.exercise.specs.declared.Record.the-variants.{Combinational, Register, Malformed}
+use Rattle.exercise.specs.Record.{outputs}
 use Rattle.sheet.proofs.Laws.{by-test}
 use Rattle.distinct.specs.Nets.{Use, reads, drives, netsRead, markRead, markDriven, markAll, readMarks}
 use Rattle.route.specs.Table.{Table}

@@ -8,7 +8,7 @@ use native.Mathlib.Nat.{sub-zero}
 use native.Mathlib.Omega.{arith}
 use lib.ListN.{length, getD, replicate}
 use borrow.Author.Tests.{lt-ltb}
-use Rattle.sheet.specs.declared.Record.{Record}
+use Rattle.exercise.specs.declared.Record.{Record}
 use Rattle.distinct.specs.Nets.{markAll, readMarks}
 use Rattle.distinct.specs.UpToTwo.{codesOf}
 use Rattle.route.specs.Table.{Table}

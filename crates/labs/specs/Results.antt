@@ -6,7 +6,7 @@ use mathlib.Core.List.{List, map}
 use lib.ListN.{length, getD, set, replicate}
 use lib.Dec.{eqb, ltb}
 use Rattle.sheet.specs.Lists.{firstFrom}
-use Rattle.sheet.specs.declared.Record.{Record}
+use Rattle.exercise.specs.declared.Record.{Record}
 use Rattle.distinct.specs.Nets.{readMarks}
 use Rattle.route.specs.Table.{Table}
 use Rattle.lab.specs.Counts.{noCounts, countsAll, markCells, resultFrom}

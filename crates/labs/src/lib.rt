@@ -1,15 +1,15 @@
+use exercise::Record;
 use lab::Counts;
 use lab::LabResult;
 use route::EntryTable;
 use sheet::CellNumber;
-use sheet::Record;
 ghost use mathlib.Core.Path.{_≡_};
 ghost use mathlib.Core.Bool.{cond};
 ghost use mathlib.Core.List.{map};
 ghost use Prim.Native.Nat.{_<_};
 ghost use lib.ListN.{length, getD, set};
 ghost use lib.Dec.{leb};
-ghost use Rattle.sheet.specs.Record.{knownAt};
+ghost use Rattle.exercise.specs.Record.{knownAt};
 ghost use Rattle.distinct.specs.Nets.{markAll};
 ghost use Rattle.lab.specs.Counts.{noCounts, countsAll, usesOf};
 ghost use Rattle.labs.specs.Members.{Links, link, linkBelow, walk};
@@ -108,7 +108,7 @@ fn count_cells(
         if next.len() <= at as usize {
             return counts;
         }
-        let cell = sheet::known_record_at(exercise, CellNumber(at));
+        let cell = exercise::known_record_at(exercise, CellNumber(at));
         counts = counts.with(cell);
         mark_if(marking, marks, cell);
         at = entry(next, at as usize);

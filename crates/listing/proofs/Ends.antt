@@ -5,7 +5,7 @@ use mathlib.Core.List.{List}
 use native.Mathlib.Omega.{arith}
 use borrow.Author.Tests.{eq-eqb, ne-eqb}
 use lib.ListN.{length, replicate, length-replicate}
-use Rattle.sheet.specs.Exercise.{cellCount}
+use Rattle.exercise.specs.Exercise.{cellCount}
 use Rattle.route.specs.Table.{Table, houseBoard}
 use Rattle.judge.specs.declared.Verdict.{Verdict}
 use Rattle.judge.specs.Judge.{judged, routed}

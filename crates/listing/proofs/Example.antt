@@ -13,9 +13,10 @@ use Rattle.placing.specs.Places.{labAt, outOfRangeAt, samePlace, placeTaken}
 use Rattle.route.specs.Way.{isWay, entryLists, ways, earliestWay}
 use Rattle.route.specs.Route.{eightBytes, labRouteOf}
 use Rattle.route.specs.Table.{houseBoard}
-use Rattle.sheet.specs.Answer.{wrongAnswerLength, placedOf, placedAt}
-use Rattle.sheet.specs.Exercise.{wrongMark, wrongVersion, overLimit, wrongExerciseLength}
-use Rattle.sheet.specs.Record.{badCombinational, badRegister, badTail, keepsCombinational, keepsRegister, recordOf, recordAt, outputs}
+use Rattle.answer.specs.Answer.{wrongAnswerLength, placedOf, placedAt}
+use Rattle.sheet.specs.Header.{wrongMark, wrongVersion}
+use Rattle.exercise.specs.Exercise.{overLimit, wrongExerciseLength}
+use Rattle.exercise.specs.Record.{badCombinational, badRegister, badTail, keepsCombinational, keepsRegister, recordOf, recordAt, outputs}
 use Rattle.listing.specs.Text.{ascii, digits, decimal}
 use Rattle.listing.specs.Listing.{orDash, verdictLine, labLine, labLines, listing}
 

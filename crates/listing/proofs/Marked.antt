@@ -13,7 +13,7 @@ use lib.ListN.{length, getD, set, length-set, replicate, length-replicate, getD-
 use lib.Seq.{getD-set-same, getD-set-other}
 use Rattle.sheet.specs.Lists.{concatMap, filterb, anyb, from}
 use Rattle.sheet.specs.Bytes.{byteAt}
-use Rattle.sheet.specs.Exercise.{cellCount}
+use Rattle.exercise.specs.Exercise.{cellCount}
 use Rattle.sheet.proofs.Laws.{by-test}
 use Rattle.route.specs.Table.{houseBoard}
 use Rattle.route.specs.Way.{earliestWay}

@@ -193,6 +193,6 @@ pub fn listing(exercise: &[u8], answer: &[u8], out: &mut [u8]) -> usize
         return next;
     }
     let mut marks = [0u8; 1024];
-    mark_labs(answer, sheet::cell_count(exercise), &mut marks);
+    mark_labs(answer, exercise::cell_count(exercise), &mut marks);
     lab_lines(out, next, &marks, &route)
 }

@@ -38,8 +38,8 @@ use denote.Triple.Entry.{Args, Res}
 use denote.Triple.Spec.{tripleOf}
 use denote.Exit.{yes}
 use denote.Triple.Clauses.{Ended, Clauses, AtExit, closing}
-use Rattle.sheet.specs.Exercise.{exerciseNumber}
-use Rattle.sheet.specs.Answer.{openingNumber}
+use Rattle.exercise.specs.Exercise.{exerciseNumber}
+use Rattle.answer.specs.Answer.{openingNumber}
 use Rattle.reader.specs.Reader.{stepNumber, stepValues, exerciseStepAt, exerciseNumberAt, exerciseValuesAt, nextExercise, placeStepNumber, placeStepValues, answerStepAt, answerNumberAt, answerValuesAt, nextAnswer}
 use Rattle.reader.specs.declared.ExerciseReader.{ExerciseReader}
 use Rattle.reader.specs.declared.AnswerReader.{AnswerReader}

@@ -8,13 +8,13 @@ use mathlib.Core.List.{List, _∷_, map}
 use lib.Dec.{leb}
 use borrow.Author.Tests.{le-leb, lt-leb}
 use Rattle.sheet.specs.Lists.{from}
-use Rattle.sheet.specs.Exercise.{netCount, cellCount}
-use Rattle.sheet.specs.Record.{recordAt}
-use Rattle.sheet.specs.Answer.{placeCount, placedAt}
-use Rattle.sheet.specs.declared.Record.{Record}
-use Rattle.sheet.specs.declared.Record.the-variants as Kind
-use Rattle.sheet.specs.declared.Placed.{Placed}
-use Rattle.sheet.specs.declared.Placed.the-variants as Spot
+use Rattle.exercise.specs.Exercise.{netCount, cellCount}
+use Rattle.exercise.specs.Record.{recordAt}
+use Rattle.answer.specs.Answer.{placeCount, placedAt}
+use Rattle.exercise.specs.declared.Record.{Record}
+use Rattle.exercise.specs.declared.Record.the-variants as Kind
+use Rattle.answer.specs.declared.Placed.{Placed}
+use Rattle.answer.specs.declared.Placed.the-variants as Spot
 use Rattle.reader.specs.declared.ExerciseStep.the-variants as Cell
 use Rattle.reader.specs.declared.AnswerStep.the-variants as Where
 use Rattle.reader.specs.Reader.{stepOf, afterRecord, exerciseStepAt, nextExercise, stays, andLater, readRecords, records, upToBroken, placeStepOf, afterPlace, answerStepAt, nextAnswer, placeStays, andLaterPlaces, readPlaces, places, placesUpToBroken}

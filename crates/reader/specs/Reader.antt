@@ -5,13 +5,13 @@ use mathlib.Core.Bool.{Bool, true, false, cond}
 use mathlib.Core.List.{List, [], _∷_, map}
 use lib.Dec.{leb}
 use Rattle.sheet.specs.Lists.{below}
-use Rattle.sheet.specs.Exercise.{netCount, cellCount}
-use Rattle.sheet.specs.Record.{recordAt, recordNumber, recordValues, combinationalValues, registerValues}
-use Rattle.sheet.specs.Answer.{placeCount, placedAt, placedNumber, placedValues, placeValues}
-use Rattle.sheet.specs.declared.Record.{Record}
-use Rattle.sheet.specs.declared.Record.the-variants as Kind
-use Rattle.sheet.specs.declared.Placed.{Placed}
-use Rattle.sheet.specs.declared.Placed.the-variants as Spot
+use Rattle.exercise.specs.Exercise.{netCount, cellCount}
+use Rattle.exercise.specs.Record.{recordAt, recordNumber, recordValues, combinationalValues, registerValues}
+use Rattle.answer.specs.Answer.{placeCount, placedAt, placedNumber, placedValues, placeValues}
+use Rattle.exercise.specs.declared.Record.{Record}
+use Rattle.exercise.specs.declared.Record.the-variants as Kind
+use Rattle.answer.specs.declared.Placed.{Placed}
+use Rattle.answer.specs.declared.Placed.the-variants as Spot
 use Rattle.reader.specs.declared.ExerciseStep.{ExerciseStep}
 use Rattle.reader.specs.declared.ExerciseStep.the-variants as Cell
 use Rattle.reader.specs.declared.AnswerStep.{AnswerStep}

@@ -1,6 +1,6 @@
 ghost use mathlib.Core.Path.{_≡_};
-ghost use Rattle.sheet.specs.Exercise.{exerciseNumber};
-ghost use Rattle.sheet.specs.Answer.{openingNumber};
+ghost use Rattle.exercise.specs.Exercise.{exerciseNumber};
+ghost use Rattle.answer.specs.Answer.{openingNumber};
 ghost use Rattle.reader.specs.Reader.{stepNumber, stepValues, exerciseStepAt, exerciseNumberAt, exerciseValuesAt, nextExercise, placeStepNumber, placeStepValues, answerStepAt, answerNumberAt, answerValuesAt, nextAnswer};
 
 // An exercise, and the number of the record that comes next. The functions over a reader are thin: the work is done on the slice
@@ -18,15 +18,15 @@ pub struct AnswerReader<'a> {
 
 // What a reader of an exercise gives: the next cell, or that its record breaks the layout, or that there is none.
 pub enum ExerciseStep {
-    Combinational(sheet::CombinationalCell),
-    Register(sheet::RegisterCell),
+    Combinational(exercise::CombinationalCell),
+    Register(exercise::RegisterCell),
     Broken,
     End,
 }
 
 // What a reader of an answer gives: the next place, or that its record breaks the layout, or that there is none.
 pub enum AnswerStep {
-    Place(sheet::Place),
+    Place(answer::Place),
     Broken,
     End,
 }
@@ -35,14 +35,14 @@ pub enum AnswerStep {
 pub fn exercise_opens(exercise: &[u8]) -> u8
     ensures { λ r. ⌜ r ≡ exerciseNumber (now (exercise .entry)) ⌝ }
 {
-    sheet::exercise_number(exercise)
+    exercise::exercise_number(exercise)
 }
 
 // The number of 20 to 25 without 24 that applies to an answer, or 0.
 pub fn answer_opens(answer: &[u8]) -> u8
     ensures { λ r. ⌜ r ≡ openingNumber (now (answer .entry)) ⌝ }
 {
-    sheet::opening_number(answer)
+    answer::opening_number(answer)
 }
 
 // What stands at a number in an exercise.
@@ -51,13 +51,17 @@ pub fn exercise_step(exercise: &[u8], at: u16) -> ExerciseStep
     ensures number { λ r. ⌜ stepNumber r ≡ exerciseNumberAt (now (exercise .entry)) at ⌝ }
     ensures values { λ r. ⌜ stepValues r ≡ exerciseValuesAt (now (exercise .entry)) at ⌝ }
 {
-    if sheet::cell_count(exercise) <= at {
+    if exercise::cell_count(exercise) <= at {
         return ExerciseStep::End;
     }
-    match sheet::record_at(exercise, sheet::CellNumber(at), sheet::net_count(exercise)) {
-        sheet::Record::Combinational(cell) => ExerciseStep::Combinational(cell),
-        sheet::Record::Register(cell) => ExerciseStep::Register(cell),
-        sheet::Record::Malformed => ExerciseStep::Broken,
+    match exercise::record_at(
+        exercise,
+        sheet::CellNumber(at),
+        exercise::net_count(exercise),
+    ) {
+        exercise::Record::Combinational(cell) => ExerciseStep::Combinational(cell),
+        exercise::Record::Register(cell) => ExerciseStep::Register(cell),
+        exercise::Record::Malformed => ExerciseStep::Broken,
     }
 }
 
@@ -65,13 +69,17 @@ pub fn exercise_step(exercise: &[u8], at: u16) -> ExerciseStep
 pub fn exercise_next(exercise: &[u8], at: u16) -> u16
     ensures { λ r. ⌜ r ≡ nextExercise (now (exercise .entry)) at ⌝ }
 {
-    if sheet::cell_count(exercise) <= at {
+    if exercise::cell_count(exercise) <= at {
         return at;
     }
-    match sheet::record_at(exercise, sheet::CellNumber(at), sheet::net_count(exercise)) {
-        sheet::Record::Combinational(_) => at + 1,
-        sheet::Record::Register(_) => at + 1,
-        sheet::Record::Malformed => at,
+    match exercise::record_at(
+        exercise,
+        sheet::CellNumber(at),
+        exercise::net_count(exercise),
+    ) {
+        exercise::Record::Combinational(_) => at + 1,
+        exercise::Record::Register(_) => at + 1,
+        exercise::Record::Malformed => at,
     }
 }
 
@@ -81,24 +89,24 @@ pub fn answer_step(answer: &[u8], at: u16) -> AnswerStep
     ensures number { λ r. ⌜ placeStepNumber r ≡ answerNumberAt (now (answer .entry)) at ⌝ }
     ensures values { λ r. ⌜ placeStepValues r ≡ answerValuesAt (now (answer .entry)) at ⌝ }
 {
-    if sheet::place_count(answer) <= at {
+    if answer::place_count(answer) <= at {
         return AnswerStep::End;
     }
-    match sheet::place_at(answer, sheet::CellNumber(at)) {
-        sheet::Placed::At(place) => AnswerStep::Place(place),
-        sheet::Placed::OutOfRange => AnswerStep::Broken,
+    match answer::place_at(answer, sheet::CellNumber(at)) {
+        answer::Placed::At(place) => AnswerStep::Place(place),
+        answer::Placed::OutOfRange => AnswerStep::Broken,
     }
 }
 
 pub fn answer_next(answer: &[u8], at: u16) -> u16
     ensures { λ r. ⌜ r ≡ nextAnswer (now (answer .entry)) at ⌝ }
 {
-    if sheet::place_count(answer) <= at {
+    if answer::place_count(answer) <= at {
         return at;
     }
-    match sheet::place_at(answer, sheet::CellNumber(at)) {
-        sheet::Placed::At(_) => at + 1,
-        sheet::Placed::OutOfRange => at,
+    match answer::place_at(answer, sheet::CellNumber(at)) {
+        answer::Placed::At(_) => at + 1,
+        answer::Placed::OutOfRange => at,
     }
 }
 

@@ -1,8 +1,8 @@
 // Runs the decoders at both sides of every limit of document 01 and writes what they answer, a line a case.
+use answer::Placed;
+use exercise::Record;
 use libc::STDOUT_FILENO;
 use sheet::CellNumber;
-use sheet::Placed;
-use sheet::Record;
 use sheet::Signal;
 
 fn word(text: &[u8]) {
@@ -52,12 +52,12 @@ fn answer(version: u16, low: u16, high: u16, cells: u16) -> [u8; 2100] {
 
 fn show_exercise(label: &[u8], s: &[u8]) {
     word(label);
-    let refused = sheet::exercise_number(s);
+    let refused = exercise::exercise_number(s);
     if refused == 0 {
         word(b" nets");
-        number(sheet::net_count(s) as u64);
+        number(exercise::net_count(s) as u64);
         word(b" cells");
-        number(sheet::cell_count(s) as u64);
+        number(exercise::cell_count(s) as u64);
     } else {
         number(refused as u64);
     }
@@ -66,17 +66,17 @@ fn show_exercise(label: &[u8], s: &[u8]) {
 
 fn show_answer(label: &[u8], s: &[u8]) {
     word(label);
-    let refused = sheet::opening_number(s);
+    let refused = answer::opening_number(s);
     if refused == 0 {
         word(b" apprentice");
-        number(sheet::apprentice(s) as u64);
+        number(answer::apprentice(s) as u64);
         word(b" cells");
-        number(sheet::place_count(s) as u64);
+        number(answer::place_count(s) as u64);
     } else {
         number(refused as u64);
     }
     word(b" without length");
-    number(sheet::answer_number(s) as u64);
+    number(answer::answer_number(s) as u64);
     line_end();
 }
 
@@ -158,7 +158,7 @@ fn signal(s: Signal) {
 
 fn show_record(label: &[u8], bytes: &[u8], nets: u16) {
     word(label);
-    match sheet::decode_record(bytes, nets) {
+    match exercise::decode_record(bytes, nets) {
         Record::Combinational(c) => {
             word(b" combinational");
             if c.sums_cin {
@@ -271,7 +271,7 @@ fn show_place(label: &[u8], placed: Placed) {
 
 fn place_case(label: &[u8], x: u8, y: u8, le: u8, last: u8) {
     let bytes = [x, y, le, last];
-    show_place(label, sheet::decode_place(&bytes));
+    show_place(label, answer::decode_place(&bytes));
 }
 
 fn place_cases() {
@@ -288,9 +288,9 @@ fn place_cases() {
     let bytes = [1u8, 2, 3, 0, 0];
     show_place(
         b"place of 3 bytes",
-        sheet::decode_place(sheet::part(&bytes, 0, 3)),
+        answer::decode_place(sheet::part(&bytes, 0, 3)),
     );
-    show_place(b"place of 5 bytes", sheet::decode_place(&bytes));
+    show_place(b"place of 5 bytes", answer::decode_place(&bytes));
 }
 
 // The second cell of a sheet of two, and a third that is not there.
@@ -298,22 +298,22 @@ fn cell_cases() {
     let mut s = exercise(1, 300, 2);
     s[33] = 2;
     s[35] = 4;
-    show_record(b"cell 0", sheet::record_part(&s, CellNumber(0)), 300);
-    show_record(b"cell 1", sheet::record_part(&s, CellNumber(1)), 300);
+    show_record(b"cell 0", exercise::record_part(&s, CellNumber(0)), 300);
+    show_record(b"cell 1", exercise::record_part(&s, CellNumber(1)), 300);
     show_record(
         b"cell 65535",
-        sheet::record_part(&s, CellNumber(65535)),
+        exercise::record_part(&s, CellNumber(65535)),
         300,
     );
     let mut a = answer(1, 7, 0, 2);
     a[15] = 3;
     a[16] = 4;
     a[17] = 5;
-    show_place(b"place of cell 0", sheet::place_at(&a, CellNumber(0)));
-    show_place(b"place of cell 1", sheet::place_at(&a, CellNumber(1)));
+    show_place(b"place of cell 0", answer::place_at(&a, CellNumber(0)));
+    show_place(b"place of cell 1", answer::place_at(&a, CellNumber(1)));
     show_place(
         b"place of cell 65535",
-        sheet::place_at(&a, CellNumber(65535)),
+        answer::place_at(&a, CellNumber(65535)),
     );
 }
 

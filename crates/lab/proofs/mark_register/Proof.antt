@@ -2,7 +2,7 @@
 -- Assumes nothing.
 use borrow.Author.Needs.{needs}
 use Rattle.lab.specs.Ports.{inputs}
-use Rattle.sheet.specs.Record.{outputs}
+use Rattle.exercise.specs.Record.{outputs}
 use Rattle.lab.proofs.Steps.{mark-ports}
 use Rattle.lab.proofs.mark_register.Statement.{statement}
 use Rattle.lab.proofs.mark_register.Tie as tie

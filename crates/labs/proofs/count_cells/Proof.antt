@@ -1,6 +1,6 @@
 -- `labs::count_cells` meets its contract. The loop's invariant: the counts and the marks, with the cells that are left of the list, are those of the
 -- whole list. Both `return`s stand where no cell is left. Assumes nothing.
-use Rattle.sheet.specs.Record.{knownAt}
+use Rattle.exercise.specs.Record.{knownAt}
 use borrow.Author.Needs.{needs}
 use Prim.Native.Nat.{_-_, _<_}
 use native.Mathlib.Omega.{arith}

@@ -3,7 +3,7 @@
 use Prim.Native.Nat.{_-_}
 use native.Mathlib.Omega.{arith}
 use Rattle.labs.proofs.Passing.{Passed, pass-starts, pass-skips, pass-goes, pass-stops, pass-ends}
-use Rattle.sheet.specs.Record.{knownAt}
+use Rattle.exercise.specs.Record.{knownAt}
 use borrow.Author.Needs.{needs}
 use Rattle.labs.proofs.route_labs.Statement.{statement}
 use Rattle.labs.proofs.route_labs.Tie as tie

@@ -2,7 +2,7 @@
 use Rattle.sheet.proofs.Laws.{passes, stops}
 use Rattle.reader.proofs.Steps.{le-by, lt-by, record-told}
 use mathlib.Core.Path.{refl, ap}
-use Rattle.sheet.specs.declared.Record.the-variants.{Combinational, Register, Malformed}
+use Rattle.exercise.specs.declared.Record.the-variants.{Combinational, Register, Malformed}
 use Rattle.reader.specs.Reader.{afterRecord, nextExercise}
 use borrow.Author.Needs.{needs}
 use Rattle.reader.proofs.exercise_next.Statement.{statement}

@@ -2,7 +2,7 @@
 use Rattle.sheet.proofs.Laws.{passes, stops}
 use Rattle.reader.proofs.Steps.{step-says, le-by, lt-by, record-told}
 use mathlib.Core.Path.{refl, ap}
-use Rattle.sheet.specs.declared.Record.the-variants.{Combinational, Register, Malformed}
+use Rattle.exercise.specs.declared.Record.the-variants.{Combinational, Register, Malformed}
 use Rattle.reader.specs.Reader.{stepOf, exerciseStepAt, exerciseNumberAt, exerciseValuesAt}
 use denote.Ref.{now}
 use borrow.Author.Needs.{needs}
