@@ -1,8 +1,8 @@
 use answer::Place;
 use exercise::CombinationalCell;
 use exercise::RegisterCell;
-use lab::LabResult;
-use lab_list::CellRecord;
+use lab_rules::LabResult;
+use list_check::CellRecord;
 use reader::AnswerStep;
 use reader::ExerciseStep;
 ghost use mathlib.Core.Path.{_≡_};
@@ -14,7 +14,7 @@ ghost use Rattle.exercise.specs.Exercise.{exerciseNumber};
 ghost use Rattle.exercise.specs.Record.{combinationalValues, registerValues};
 ghost use Rattle.answer.specs.Answer.{openingNumber, placeValues};
 ghost use Rattle.reader.specs.Reader.{exerciseStepAt, nextExercise, answerStepAt, nextAnswer};
-ghost use Rattle.lab_list.specs.ListCheck.{listVerdict};
+ghost use Rattle.list_check.specs.ListCheck.{listVerdict};
 ghost use Rattle.c_api.specs.Told.{sevenNumbers, cellTold, cellFields, placeTold, placeFields};
 
 fn wide8(n: u8) -> u64
@@ -228,5 +228,5 @@ pub extern "C" fn nurimkkot_check_lab(cells: &[CellRecord], route: &mut [u8; 8])
     ensures number { λ r. ⌜ r ≡ listVerdict houseBoard (now (cells .entry)) .number ⌝ }
     ensures bytes { λ _. ⌜ now (route .exit) ≡ listVerdict houseBoard (now (cells .entry)) .bytes ⌝ }
 {
-    tell(lab_list::check_list(cells), route)
+    tell(list_check::check_list(cells), route)
 }

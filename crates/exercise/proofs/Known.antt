@@ -6,7 +6,8 @@ use mathlib.Core.List.{List}
 use lib.ListN.{length}
 use lib.Dec.{eqb}
 use Rattle.exercise.specs.Exercise.{recordPart}
-use Rattle.exercise.specs.Record.{kindOf, keepsCombinational, keepsRegister, recordOf, recordAt, knownOf, knownAt, isMalformed}
+use Rattle.exercise.specs.Record.{kindOf, keepsCombinational, keepsRegister, recordOf, recordAt, isMalformed}
+use Rattle.exercise.specs.passes.Known.{knownOf, knownAt}
 use Rattle.exercise.specs.declared.CombinationalCell.{CombinationalCell}
 use Rattle.exercise.specs.declared.RegisterCell.{RegisterCell}
 use Rattle.exercise.specs.declared.Record.the-variants.{Combinational, Register}

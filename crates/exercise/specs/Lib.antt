@@ -1,2 +1,3 @@
 pub mod Exercise
 pub mod Record
+pub mod passes

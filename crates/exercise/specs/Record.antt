@@ -110,15 +110,6 @@ recordOf nets p =
 unfoldable pub recordAt : ℕ → List ℕ → ℕ → Record
 recordAt nets e i = recordOf nets (recordPart e i)
 
--- what a record says that keeps the layout: its kind tells all. Of any other record it says what nobody asks
-unfoldable pub knownOf : List ℕ → Record
-knownOf p =
-    cond (not (eqb (length p) 24)) Malformed
-    (cond (eqb (kindOf p) 1) (Combinational (combinationalOf p)) (Register (registerOf p)))
-
-unfoldable pub knownAt : List ℕ → ℕ → Record
-knownAt e i = knownOf (recordPart e i)
-
 -- "kind, flag, eleven signals" of a cell: as in its record
 abbrev pub combinationalValues : CombinationalCell → List ℕ
 combinationalValues c =

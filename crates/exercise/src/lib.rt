@@ -8,7 +8,8 @@ ghost use lib.ListN.{length};
 ghost use Rattle.sheet.specs.Bytes.{beginsAt};
 ghost use Rattle.sheet.specs.Signal.{connected};
 ghost use Rattle.exercise.specs.Exercise.{overLimit, wrongExerciseLength, netCount, cellCount, exerciseNumber, recordStart, recordPart};
-ghost use Rattle.exercise.specs.Record.{codeAt, signalAt, combinationalOf, registerOf, badCombinational, badRegister, badTail, keepsCombinational, keepsRegister, recordOf, recordAt, recordNumber, recordValues, breaksLayout, recordFields, knownOf, knownAt};
+ghost use Rattle.exercise.specs.Record.{codeAt, signalAt, combinationalOf, registerOf, badCombinational, badRegister, badTail, keepsCombinational, keepsRegister, recordOf, recordAt, recordNumber, recordValues, breaksLayout, recordFields};
+ghost use Rattle.exercise.specs.passes.Known.{knownOf, knownAt};
 
 // Limits of document 01.
 pub const MAX_NETS: u16 = 1024;

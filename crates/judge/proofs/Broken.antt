@@ -7,18 +7,13 @@ use mathlib.Core.List.{List, [], _∷_, _++_, map}
 use native.Mathlib.Omega.{arith}
 use lib.Dec.{eqb, ltb}
 use borrow.Author.Tests.{ne-eqb, lt-ltb, le-ltb}
-use Rattle.sheet.specs.Lists.{concatMap, from, below, firstFrom}
+use Rattle.sheet.specs.Lists.{Every, concatMap, from, below, firstFrom}
 use Rattle.sheet.specs.Checks as sheet
 use Rattle.sheet.proofs.Laws.{by-test}
-use Rattle.netlist.specs.Tables.{NONE}
+use Rattle.sheet.specs.Checks.{NONE}
 use Rattle.judge.specs.declared.Finding.{Finding}
 use Rattle.judge.specs.Judge.{Check, finding, legal, ofSheet, ofCell, ofLab, perCell, firstBroken}
 use Rattle.judge.specs.Demands.{AllHold}
-
--- P holds of every element
-unfoldable pub Every : {A : Type 0} → (A → Type 0) → List A → Type 0
-Every P [] = Unit {0}
-Every P (x ∷ xs) = P x × Every P xs
 
 -- no number is 0
 abbrev pub Numbered : List Check → Type 0
@@ -45,7 +40,6 @@ append-hold (x ∷ xs) ys h g = (h .0, append-hold xs ys (h .1) g)
 
 pub first-append : (xs ys : List Check) → Numbered xs
     → firstBroken (xs ++ ys) ≡ cond (eqb (firstBroken xs .number) 0) (firstBroken ys) (firstBroken xs)
-unfolding Every
 first-append [] ys h = refl
 first-append (x ∷ xs) ys h =
     by-test (x .broken) (λ b. rw (b, ne-eqb (x .finding .number) 0 (h .0))) (λ b. rw b (first-append xs ys (h .1)))
@@ -53,7 +47,6 @@ first-append (x ∷ xs) ys h =
 -- ---- one list
 -- what is true of legal and of each check's finding is true of what the first broken one finds
 pub found : (P : Finding → Type 0) → P legal → (ks : List Check) → Every (λ k. P (k .finding)) ks → P (firstBroken ks)
-unfolding Every
 found P l [] h = l
 found P l (k ∷ ks) h = by-test (k .broken) (λ b. rw b (h .0)) (λ b. rw b (found P l ks (h .1)))
 
@@ -63,7 +56,7 @@ hold-legal [] h = refl
 hold-legal (k ∷ ks) h = rw (h .0) (hold-legal ks (h .1))
 
 pub legal-hold : (ks : List Check) → Numbered ks → firstBroken ks .number ≡ 0 → AllHold ks
-unfolding AllHold Every
+unfolding AllHold
 legal-hold [] n e = tt
 legal-hold (k ∷ ks) n e = by-test (k .broken) (λ b. absurd (n .0 (rw b at e))) (λ b. (b, legal-hold ks (n .1) (rw b at e)))
 
@@ -111,7 +104,6 @@ ofOne p ks = map (λ k. record { finding = p (k .number); broken = k .broken }) 
 
 one-append : (p : ℕ → Finding) (ks : List sheet.Check) (ys : List Check) → NumberedIn ks
     → firstBroken (ofOne p ks ++ ys) ≡ cond (not (eqb (sheet.firstNumber ks) 0)) (p (sheet.firstNumber ks)) (firstBroken ys)
-unfolding Every
 one-append p [] ys h = refl
 one-append p (k ∷ ks) ys h = by-test (k .broken) (λ b. rw (b, ne-eqb (k .number) 0 (h .0))) (λ b. rw b (one-append p ks ys (h .1)))
 

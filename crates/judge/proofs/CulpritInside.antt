@@ -11,7 +11,7 @@ use lib.ListN.{length}
 use lib.Dec.{eqb, ltb}
 use borrow.Author.Needs.{needs}
 use borrow.Author.Tests.{eqb-true, eqb-false, ltb-true}
-use Rattle.sheet.specs.Lists.{concatMap, filterb, from, below, firstFrom}
+use Rattle.sheet.specs.Lists.{Every, concatMap, filterb, from, below, firstFrom}
 use Rattle.exercise.specs.Exercise.{cellCount, recordStart}
 use Rattle.answer.specs.Answer.{placeStart}
 use Rattle.exercise.specs.declared.Record.{Record}
@@ -19,13 +19,13 @@ use Rattle.exercise.specs.declared.Record.the-variants.{Combinational, Register
 use Rattle.sheet.proofs.Laws.{by-test}
 use Rattle.route.specs.Table.{Table}
 use Rattle.route.specs.Way.{isWay, entryLists, ways, earliestWay}
-use Rattle.lab.specs.Ports.{inLab, netsIn}
-use Rattle.lab.specs.Rules.{tooManyClocks, tooManyPairs, tooManyClears, tooManySynchronous, tooManyNets, noWay, labChecks}
-use Rattle.lab.specs.Rules as rules
+use Rattle.lab_rules.specs.Ports.{inLab, netsIn}
+use Rattle.lab_rules.specs.Rules.{tooManyClocks, tooManyPairs, tooManyClears, tooManySynchronous, tooManyNets, noWay, labChecks}
+use Rattle.lab_rules.specs.Rules as rules
 use Rattle.netlist.specs.Cells.{cell, malformed, doubleDriver, checksOf, cellChecks}
 use Rattle.placing.specs.Places.{labAt, outOfRangeAt, placeTaken}
-use Rattle.labs.specs.Members.{members}
-use Rattle.netlist.specs.Tables.{NONE}
+use Rattle.lab_pass.specs.Members.{members}
+use Rattle.sheet.specs.Checks.{NONE}
 use Rattle.judge.specs.declared.Fault.{Fault}
 use Rattle.judge.specs.declared.Fault.the-variants as fault
 use Rattle.judge.specs.declared.Fault.the-variants.{Call, ExerciseHead, AnswerHead, Place, Lab}
@@ -34,7 +34,7 @@ use Rattle.judge.specs.Numbers.{faultOf}
 use Rattle.judge.specs.Judge.{Check, finding, legal, ofCell, ofLab, perCell, carryNotNext, labCells, roomChecks, exerciseGroup, answerGroup, cellGroup, placeGroup, labGroup, checksTo51, checks, firstBroken, firstOr, lowestIn, culpritAt, culpritOf, verdictOf, judged}
 use Rattle.judge.specs.Demands.{AllHold, LowestCell}
 use Rattle.judge.specs.Culprit.{Inside, CulpritLaw}
-use Rattle.judge.proofs.Broken.{Every, found, run-finds}
+use Rattle.judge.proofs.Broken.{found, run-finds}
 use Rattle.judge.proofs.Held.{held-groups}
 use Rattle.judge.proofs.Groups.{exerciseHead, recordRun, driverRun, answerHead, rangeRun, sharedRun, carryRun}
 use Rattle.judge.proofs.Kept.{exercise-length, answer-length, exercise-parts, answer-parts}
@@ -127,17 +127,17 @@ module _ (e a : List ℕ) where
   -- ---- the groups of checks
   -- 1
   room-fine : (r : ℕ) → Fine (firstBroken (roomChecks r))
-  unfolding roomChecks AllFine Every faultOf
+  unfolding roomChecks AllFine faultOf
   room-fine r = found-fine (roomChecks r) (search needs)
 
   -- 10 to 14
   exercise-head-fine : Fine (firstBroken (exerciseHead e))
-  unfolding AllFine Every faultOf
+  unfolding AllFine faultOf
   exercise-head-fine = found-fine (exerciseHead e) (search needs)
 
   -- 20 to 25
   answer-head-fine : Fine (firstBroken (answerHead e a))
-  unfolding AllFine Every faultOf
+  unfolding AllFine faultOf
   answer-head-fine = found-fine (answerHead e a) (search needs)
 
   -- where the exercise has the length that its header says
@@ -152,7 +152,7 @@ module _ (e a : List ℕ) where
 
     -- 30 to 44
     of-kind-fine : (i : ℕ) → i < cellCount e → (c : Record) → AllFine (ofCell i (checksOf e i c))
-    unfolding AllFine Every faultOf
+    unfolding AllFine faultOf
     of-kind-fine i m (Combinational c) = search needs
     of-kind-fine i m (Register r) = search needs
     of-kind-fine i m Malformed = tt
@@ -180,7 +180,7 @@ module _ (e a : List ℕ) where
 
       -- 60 to 65: a LAB with a cell, and one with none
       rules-fine : (t : Table) (l : ℕ) → LowestCell e a l (lowestIn a (cellCount e) l) → AllFine (ofLab l (labChecks t (labCells e a l)))
-      unfolding AllFine Every faultOf
+      unfolding AllFine faultOf
       rules-fine t l m = search needs
 
       empty-fine : (t : Table) (l : ℕ) → members a (cellCount e) l ≡ [] → Fine (firstBroken (ofLab l (labChecks t (labCells e a l))))

@@ -8,7 +8,7 @@ use native.Mathlib.Omega.{arith}
 use lib.Dec.{eqb}
 use borrow.Author.Needs.{needs}
 use borrow.Author.Tests.{eqb-true, leb-false, not-false}
-use Rattle.sheet.specs.Lists.{filterb, elemb, from}
+use Rattle.sheet.specs.Lists.{Every, filterb, elemb, from}
 use Rattle.sheet.specs.Checks.{firstNumber}
 use Rattle.sheet.specs.Signal.{connected, isNet, isBad, isBadOutput}
 use Rattle.exercise.specs.Exercise.{netCount, cellCount, recordPart}
@@ -17,13 +17,13 @@ use Rattle.exercise.specs.declared.RegisterCell.{RegisterCell}
 use Rattle.exercise.specs.declared.Record.{Record}
 use Rattle.exercise.specs.declared.Record.the-variants.{Combinational, Register, Malformed}
 use Rattle.sheet.proofs.Laws.{by-test}
-use Rattle.lab.specs.Ports.{clk, ena, inputs}
-use Rattle.lab.specs.Counts.{Fit, AllFit}
+use Rattle.lab_rules.specs.Ports.{clk, ena, inputs}
+use Rattle.lab_rules.specs.passes.Counts.{Fit, AllFit}
 use Rattle.netlist.specs.Cells.{cell, allInputs, registerChecks, cellChecks}
 use Rattle.placing.specs.Places.{labAt}
-use Rattle.labs.specs.Members.{members}
+use Rattle.lab_pass.specs.Members.{members}
 use Rattle.judge.specs.Judge.{labCells}
-use Rattle.judge.proofs.Broken.{Every, held-number}
+use Rattle.judge.proofs.Broken.{held-number}
 use Rattle.judge.proofs.Numbers.{elem-more}
 use Rattle.netlist.proofs.Decoded.{inputs-good, outputs-good, good-net, good-output}
 
@@ -45,7 +45,6 @@ input-of-all s Malformed m = m
 
 -- ---- 34
 pub enable-clocked : (r : RegisterCell) → firstNumber (registerChecks r) ≡ 0 → connected (ena r) ≡ true → connected (clk r) ≡ true
-unfolding Every
 enable-clocked r h on = not-false (connected (clk r)) (rw on at (held-number 34 (registerChecks r) (search needs) h))
 
 -- ---- cells

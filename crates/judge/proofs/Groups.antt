@@ -7,19 +7,19 @@ use mathlib.Core.Bool.{cond, not}
 use mathlib.Core.List.{List, [], _∷_, _++_}
 use lib.Dec.{eqb, ltb}
 use borrow.Author.Tests.{ne-eqb}
-use Rattle.sheet.specs.Lists.{firstFrom}
+use Rattle.sheet.specs.Lists.{Every, firstFrom}
 use Rattle.exercise.specs.Exercise.{cellCount, exerciseChecks, exerciseNumber}
 use Rattle.answer.specs.Answer.{answerChecks, answerNumber, placeCount, wrongAnswerLength}
 use Rattle.sheet.proofs.Laws.{by-test}
 use Rattle.netlist.specs.Cells.{cellNumbers, malformed, doubleDriver, cellChecks, cellNumber}
 use Rattle.placing.specs.Places.{outOfRangeAt, placeTaken}
-use Rattle.netlist.specs.Tables.{NONE}
+use Rattle.sheet.specs.Checks.{NONE}
 use Rattle.judge.specs.declared.Finding.{Finding}
 use Rattle.judge.specs.Judge.{Check, finding, check, ofSheet, perCell, carryNotNext, roomChecks, exerciseGroup, answerGroup, cellGroup, placeGroup, checksTo51, firstBroken}
 use Rattle.judge.specs.Numbers.{numbersTo51}
-use Rattle.judge.specs.Stages.{numberedAs, numbered, atCell}
+use Rattle.judge.specs.passes.Stages.{numberedAs, numbered, atCell}
 use borrow.Author.Needs.{needs}
-use Rattle.judge.proofs.Broken.{Every, first-append, sheet-finds, run-finds, cells-find}
+use Rattle.judge.proofs.Broken.{first-append, sheet-finds, run-finds, cells-find}
 use Rattle.judge.proofs.Numbers.{To51, known-numbered, every-append, run-known, exercise-known, answer-known, cells-known, cell-numbered}
 
 -- ---- the parts of the groups: 10 to 14; 15; 16; 20 to 25; 26; 50; 51
@@ -73,13 +73,12 @@ pub exercise-finds : (e : List ℕ) → firstBroken (exerciseGroup e)
     ≡ then (finding (exerciseNumber e) NONE NONE)
     (cond (ltb (firstFrom (malformed e) 0 (cellCount e)) (cellCount e)) (finding 15 (firstFrom (malformed e) 0 (cellCount e)) NONE)
     (atCell 16 (firstFrom (doubleDriver e) 0 (cellCount e)) (cellCount e)))
-unfolding exerciseGroup exerciseNumber Every
+unfolding exerciseGroup exerciseNumber
 exercise-finds e =
     in-turn (exerciseHead e) (recordRun e ++ driverRun e) (exercise-known e)
     ∙ rw (sheet-finds (exerciseChecks e), in-turn (recordRun e) (driverRun e) (run-15 e), run-finds 15 (malformed e) (cellCount e), run-finds 16 (doubleDriver e) (cellCount e), run-then 15 (firstFrom (malformed e) 0 (cellCount e)) (cellCount e) (atCell 16 (firstFrom (doubleDriver e) 0 (cellCount e)) (cellCount e)) (λ z. omega arith))
 
 sheet-known : (a : List ℕ) → Every To51 (ofSheet (answerChecks a))
-unfolding Every
 sheet-known a = search needs
 
 -- 20 to 26
@@ -88,7 +87,7 @@ pub answer-finds : (e a : List ℕ) → firstBroken (answerGroup e a)
     (cond (not (eqb (placeCount a) (cellCount e))) (finding 24 NONE NONE)
     (cond (wrongAnswerLength a) (finding 25 NONE NONE)
     (atCell 26 (firstFrom (outOfRangeAt a) 0 (cellCount e)) (cellCount e))))
-unfolding answerGroup answerNumber Every
+unfolding answerGroup answerNumber
 answer-finds e a =
     in-turn (ofSheet (answerChecks a)) (check 24 (not (eqb (placeCount a) (cellCount e))) ∷ check 25 (wrongAnswerLength a) ∷ rangeRun e a) (sheet-known a)
     ∙ rw (sheet-finds (answerChecks a), run-finds 26 (outOfRangeAt a) (cellCount e))

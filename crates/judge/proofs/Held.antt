@@ -10,7 +10,7 @@ use native.Mathlib.Omega.{arith}
 use Rattle.sheet.specs.Lists.{concatMap, from, below}
 use Rattle.sheet.specs.Checks as sheet
 use Rattle.route.specs.Table.{Table}
-use Rattle.lab.specs.Rules.{labChecks}
+use Rattle.lab_rules.specs.Rules.{labChecks}
 use Rattle.judge.specs.Judge.{Check, perCell, ofCell, ofLab, labCells, roomChecks, exerciseGroup, answerGroup, cellGroup, placeGroup, labGroup, checksTo51, checks, verdictOf, judged}
 use Rattle.judge.specs.Demands.{AllHold}
 use Rattle.judge.proofs.Broken as broken

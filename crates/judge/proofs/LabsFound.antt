@@ -9,24 +9,25 @@ use lib.Dec.{eqb}
 use borrow.Author.Tests.{eq-eqb}
 use Rattle.sheet.specs.Lists.{concatMap, filterb, from, below}
 use Rattle.exercise.specs.Exercise.{cellCount}
-use Rattle.exercise.specs.Record.{knownAt}
+use Rattle.exercise.specs.passes.Known.{knownAt}
 use Rattle.exercise.specs.declared.Record.{Record}
 use Rattle.sheet.proofs.Laws.{by-test}
 use Rattle.route.specs.Table.{Table}
-use Rattle.lab.specs.Rules.{labChecks, labNumber, routeOf, labResult}
-use Rattle.lab.specs.Counts.{AllFit}
-use Rattle.lab.specs.declared.LabResult.{LabResult}
+use Rattle.lab_rules.specs.Rules.{labChecks, labNumber, routeOf, labResult}
+use Rattle.lab_rules.specs.passes.Counts.{AllFit}
+use Rattle.lab_rules.specs.declared.LabResult.{LabResult}
 use Rattle.netlist.specs.Cells.{cell}
 use Rattle.placing.specs.Places.{labAt}
-use Rattle.labs.specs.Members.{Links, members, linkBelow}
-use Rattle.labs.specs.Results.{resultAt, hasCells, putRows}
-use Rattle.labs.proofs.Linked.{walk-members}
-use Rattle.labs.proofs.Labs.{result-is-lab}
-use Rattle.labs.proofs.Passing.{none-in}
-use Rattle.labs.proofs.Rows.{rows-put, bytes-eight}
-use Rattle.netlist.specs.Tables.{NONE}
+use Rattle.lab_pass.specs.passes.Links.{Links, linkBelow}
+use Rattle.lab_pass.specs.Members.{members}
+use Rattle.lab_pass.specs.passes.Results.{resultAt, hasCells, putRows}
+use Rattle.lab_pass.proofs.Linked.{walk-members}
+use Rattle.lab_pass.proofs.Labs.{result-is-lab}
+use Rattle.lab_pass.proofs.Passing.{none-in}
+use Rattle.lab_pass.proofs.Rows.{rows-put, bytes-eight}
+use Rattle.sheet.specs.Checks.{NONE}
 use Rattle.judge.specs.Judge.{finding, labCells, labGroup, firstBroken}
-use Rattle.judge.specs.Stages.{numberedAs, numberedLab}
+use Rattle.judge.specs.passes.Stages.{numberedAs, numberedLab}
 use Rattle.judge.proofs.Broken.{labs-find}
 use Rattle.judge.proofs.Numbers.{lab-numbered}
 use Rattle.judge.proofs.Numbering.{numbered-same, numbered-none}

@@ -8,7 +8,7 @@ use Rattle.sheet.specs.Lists.{firstFrom}
 use Rattle.sheet.proofs.Laws.{by-test}
 use Rattle.sheet.proofs.First.{first-below, none-below, some-below}
 use Rattle.judge.specs.declared.Finding.{Finding}
-use Rattle.judge.specs.Stages.{numberedAs}
+use Rattle.judge.specs.passes.Stages.{numberedAs}
 
 module _ (found : ℕ → ℕ → Finding) where
   -- two that agree below n find the same

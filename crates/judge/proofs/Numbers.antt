@@ -7,39 +7,35 @@ use lib.ListN.{length, getD, drop, replicate}
 use lib.Dec.{eqb}
 use borrow.Author.Tests.{eqb-true}
 use borrow.Author.Needs.{needs}
-use Rattle.sheet.specs.Lists.{concatMap, elemb, below}
+use Rattle.sheet.specs.Lists.{Every, concatMap, elemb, below}
 use Rattle.exercise.specs.Exercise.{exerciseChecks}
 use Rattle.sheet.proofs.Laws.{by-test}
 use Rattle.exercise.specs.declared.Record.{Record}
 use Rattle.exercise.specs.declared.Record.the-variants.{Combinational, Register, Malformed}
 use Rattle.route.specs.Table.{Table}
-use Rattle.lab.specs.Rules.{labRules, labChecks}
+use Rattle.lab_rules.specs.Rules.{labRules, labChecks}
 use Rattle.netlist.specs.Cells.{cell, cellNumbers, checksOf, cellChecks}
 use Rattle.judge.specs.Judge.{Check, cellCheck, perCell, ofSheet, ofCell, ofLab, labCells, roomChecks, exerciseGroup, answerGroup, cellGroup, placeGroup, labGroup, checksTo51, checks, firstBroken}
 use Rattle.judge.specs.Numbers.{numbersTo51, labNumbers, refusalNumbers}
 use Rattle.judge.specs.Demands.{AllHold}
-use Rattle.judge.proofs.Broken.{Every, Numbered, NumberedIn}
+use Rattle.judge.proofs.Broken.{Numbered, NumberedIn}
 
 -- ---- of every element
 pub every-append : {A : Type 0} (P : A → Type 0) (xs ys : List A) → Every P xs → Every P ys → Every P (xs ++ ys)
-unfolding Every
 every-append P [] ys h g = g
 every-append P (x ∷ xs) ys h g = (h .0, every-append P xs ys (h .1) g)
 
 module _ {A : Type 0} where
   pub every-weaker : (P Q : A → Type 0) → ((x : A) → P x → Q x) → (xs : List A) → Every P xs → Every Q xs
-  unfolding Every
   every-weaker P Q w [] h = tt
   every-weaker P Q w (x ∷ xs) h = (w x (h .0), every-weaker P Q w xs (h .1))
 
   module _ {B : Type 0} (Q : B → Type 0) where
     every-image : (f : A → B) → ((x : A) → Q (f x)) → (xs : List A) → Every Q (map f xs)
-    unfolding Every
     every-image f h [] = tt
     every-image f h (x ∷ xs) = (h x, every-image f h xs)
 
     every-joined : (f : A → List B) → ((x : A) → Every Q (f x)) → (xs : List A) → Every Q (concatMap f xs)
-    unfolding Every
     every-joined f h [] = tt
     every-joined f h (x ∷ xs) = every-append Q (f x) (concatMap f xs) (h x) (every-joined f h xs)
 
@@ -67,7 +63,7 @@ module _ (n : ℕ) (ns : List ℕ) (none : elemb n ns ≡ false) where
 
   -- where the first broken check has a number that none of the first list has, these all hold
   pub later-held : (xs ys : List Check) → Every (In ns) xs → firstBroken (xs ++ ys) .number ≡ n → AllHold xs
-  unfolding Every AllHold
+  unfolding AllHold
   later-held [] ys h e = tt
   later-held (x ∷ xs) ys h e =
       by-test (x .broken) (λ b. absurd (other (x .finding .number) (h .0) (rw b at e))) (λ b. (b, later-held xs ys (h .1) (rw b at e)))
@@ -80,21 +76,19 @@ pub run-known : (n : ℕ) → elemb n numbersTo51 ≡ true → (f : ℕ → Bool
 run-known n h f all = every-image To51 (λ i. cellCheck n i (f i)) (λ i. h) all
 
 pub room-known : (r : ℕ) → Every To51 (roomChecks r)
-unfolding roomChecks Every
+unfolding roomChecks
 room-known r = search needs
 
 pub exercise-known : (e : List ℕ) → Every To51 (ofSheet (exerciseChecks e))
-unfolding Every
 exercise-known e = search needs
 
 ruleset runs = (run-known, needs)
 
 pub answer-known : (e a : List ℕ) → Every To51 (answerGroup e a)
-unfolding answerGroup Every
+unfolding answerGroup
 answer-known e a = search runs depth 20
 
 cell-known : (e : List ℕ) (i j : ℕ) (c : Record) → Every To51 (ofCell j (checksOf e i c))
-unfolding Every
 cell-known e i j (Combinational c) = search needs
 cell-known e i j (Register r) = search needs
 cell-known e i j Malformed = tt
@@ -104,7 +98,6 @@ unfolding cellGroup cellChecks
 cells-known e = every-joined To51 (λ i. ofCell i (cellChecks e i)) (λ i. cell-known e i i (cell e i)) (cellNumbers e)
 
 of-kind-numbered : (e : List ℕ) (i : ℕ) (c : Record) → NumberedIn (checksOf e i c)
-unfolding Every
 of-kind-numbered e i (Combinational c) = search needs
 of-kind-numbered e i (Register r) = search needs
 of-kind-numbered e i Malformed = tt
@@ -114,15 +107,12 @@ unfolding cellChecks
 cell-numbered e i = of-kind-numbered e i (cell e i)
 
 pub rules-numbered : (cs : List Record) → NumberedIn (labRules cs)
-unfolding Every
 rules-numbered cs = search needs
 
 lab-known : (t : Table) (cs : List Record) (l : ℕ) → Every (In refusalNumbers) (ofLab l (labChecks t cs))
-unfolding Every
 lab-known t cs l = search needs
 
 pub lab-numbered : (t : Table) (cs : List Record) → NumberedIn (labChecks t cs)
-unfolding Every
 lab-numbered t cs = search needs
 
 -- ---- all checks

@@ -8,7 +8,7 @@ use native.Mathlib.Decide.{decLt}
 use native.Mathlib.Omega.{arith}
 use lib.Dec.{eqb, ltb}
 use borrow.Author.Tests.{eqb-true, ne-eqb, lt-ltb}
-use Rattle.sheet.specs.Lists.{concatMap, filterb, from, below, firstFrom}
+use Rattle.sheet.specs.Lists.{Every, concatMap, filterb, from, below, firstFrom}
 use Rattle.sheet.specs.Checks as sheet
 use Rattle.exercise.specs.Exercise.{cellCount}
 use Rattle.exercise.specs.declared.Record.{Record}
@@ -16,17 +16,17 @@ use Rattle.sheet.proofs.Laws.{by-test}
 use Rattle.route.specs.Table.{Table}
 use Rattle.route.specs.Way.{Way}
 use Rattle.route.proofs.AllWays.{earliest-some, no-needs}
-use Rattle.lab.specs.Ports.{inLab}
-use Rattle.lab.specs.Rules.{needs, noWay, labRules, labChecks, labNumber}
-use Rattle.lab.proofs.Routes.{stuck, goes, told}
+use Rattle.lab_rules.specs.Ports.{inLab}
+use Rattle.lab_rules.specs.Rules.{needs, noWay, labRules, labChecks, labNumber}
+use Rattle.lab_rules.proofs.Routes.{stuck, goes, told}
 use Rattle.placing.specs.Places.{labAt}
-use Rattle.labs.specs.Members.{members}
-use Rattle.netlist.specs.Tables.{NONE}
+use Rattle.lab_pass.specs.Members.{members}
+use Rattle.sheet.specs.Checks.{NONE}
 use Rattle.judge.specs.declared.Finding.{Finding}
 use Rattle.judge.specs.Judge.{Check, finding, ofLab, labCells, labGroup, checksTo51, checks, firstBroken, judged, verdictOf}
 use Rattle.judge.specs.Numbers.{numbersTo51}
 use Rattle.judge.specs.Demands.{AllHold, FourThings, Keeps60to64, Keeps65, labNeeds}
-use Rattle.judge.proofs.Broken.{Every, NumberedIn, skip-held, breaksOne, labs-find}
+use Rattle.judge.proofs.Broken.{NumberedIn, skip-held, breaksOne, labs-find}
 use Rattle.sheet.proofs.First.{before-first, first-is}
 use Rattle.judge.proofs.Numbers.{later-held, rules-numbered, lab-numbered, to-51-known}
 use Rattle.judge.proofs.Held.{hold-number}
@@ -35,7 +35,7 @@ use Rattle.placing.proofs.Places.{lab-in-range}
 
 -- checks of a LAB that give no number hold
 number-hold : (l : ℕ) (ks : List sheet.Check) → NumberedIn ks → sheet.firstNumber ks ≡ 0 → AllHold (ofLab l ks)
-unfolding Every AllHold
+unfolding AllHold
 number-hold l [] n h = tt
 number-hold l (k ∷ ks) n h = by-test (k .broken) (λ q. absurd (n .0 (rw q at h))) (λ q. (q, number-hold l ks (n .1) (rw q at h)))
 

@@ -15,7 +15,7 @@ use Rattle.route.specs.Table.{Table}
 use Rattle.netlist.specs.Cells.{cell, cellNumbers, feeds}
 use Rattle.placing.specs.Places.{follows, placeTaken}
 use Rattle.placing.proofs.Places.{no-ring}
-use Rattle.netlist.specs.Tables.{NONE}
+use Rattle.sheet.specs.Checks.{NONE}
 use Rattle.judge.specs.Judge.{finding, perCell, standsApart, carryNotNext, roomChecks, exerciseGroup, answerGroup, cellGroup, placeGroup, labGroup, checksTo51, checks, firstBroken, judged, verdictOf}
 use Rattle.judge.specs.Demands.{AllHold}
 use Rattle.judge.proofs.Broken.{first-append, skip-held, run-finds}

@@ -19,8 +19,8 @@ use Rattle.route.specs.declared.Need.{Need}
 use Rattle.route.specs.Table.{Table}
 use Rattle.route.specs.Way.{earliestWay}
 use Rattle.route.specs.Route.{eightBytes, labRouteOf, byteOfNeed, HoldsEarliest}
-use Rattle.lab.specs.Rules.{needs, labChecks, labNumber, routeOf}
-use Rattle.lab.proofs.Routes.{lab-legal}
+use Rattle.lab_rules.specs.Rules.{needs, labChecks, labNumber, routeOf}
+use Rattle.lab_rules.proofs.Routes.{lab-legal}
 use Rattle.placing.specs.Places.{labAt}
 use Rattle.placing.proofs.Places.{lab-in-range}
 use Rattle.judge.specs.Judge.{labCells, occupied, judged, routed}

@@ -14,16 +14,17 @@ use Rattle.exercise.specs.declared.Record.{Record}
 use Rattle.exercise.specs.declared.Record.the-variants.{Combinational, Register, Malformed}
 use Rattle.sheet.proofs.Laws.{by-test, or-parts}
 use Rattle.netlist.specs.Cells.{cell, malformed, doubleDriver, cellNumber}
-use Rattle.exercise.specs.Record.{knownAt}
+use Rattle.exercise.specs.passes.Known.{knownAt}
 use Rattle.exercise.proofs.Known.{known-is}
-use Rattle.netlist.specs.Tables.{NONE, cellFor, numberAt, readsBelow, readersBelow, driversBelow}
+use Rattle.sheet.specs.Checks.{NONE}
+use Rattle.netlist.specs.passes.Tables.{cellFor, numberAt, readsBelow, readersBelow, driversBelow}
 use Rattle.netlist.proofs.Same.{reads-same, readers-same, drivers-same}
 use Rattle.netlist.proofs.Carry.{fed-by, number-is, reads, readers, drivers}
 use Rattle.placing.specs.Places.{follows, detachedBy, detachedAt}
 use Rattle.judge.specs.declared.Finding.{Finding}
 use Rattle.judge.specs.Judge.{finding, legal, ofSheet, standsApart, carryNotNext, exerciseGroup, cellGroup, placeGroup, firstBroken}
 use Rattle.judge.specs.Numbers.{numbersTo51}
-use Rattle.judge.specs.Stages.{numbered, atCell, placedBy}
+use Rattle.judge.specs.passes.Stages.{numbered, atCell, placedBy}
 use Rattle.sheet.proofs.First.{first-below, none-below}
 use Rattle.judge.proofs.Broken.{held-number}
 use Rattle.judge.proofs.Numbers.{known-numbered, exercise-known}

@@ -14,19 +14,20 @@ use Rattle.sheet.specs.Bytes.{beginsAt}
 use Rattle.exercise.specs.Exercise.{netCount, cellCount, exerciseNumber}
 use Rattle.answer.specs.Answer.{answerNumber, placeCount, wrongAnswerLength, placeStart}
 use Rattle.route.specs.Table.{Table, houseBoard}
-use Rattle.lab.specs.Rules.{routeOf}
+use Rattle.lab_rules.specs.Rules.{routeOf}
 use Rattle.sheet.proofs.Laws.{by-test}
-use Rattle.lab.specs.Counts.{AllFit}
+use Rattle.lab_rules.specs.passes.Counts.{AllFit}
 use Rattle.netlist.specs.Cells.{cell, malformed, doubleDriver, cellNumber}
-use Rattle.netlist.specs.Tables.{NONE, malformedAt, doubleFrom, readsBelow, readersBelow, driversBelow, numberBy, numberAt, brokenAt}
+use Rattle.sheet.specs.Checks.{NONE}
+use Rattle.netlist.specs.passes.Tables.{malformedAt, doubleFrom, readsBelow, readersBelow, driversBelow, numberBy, numberAt, brokenAt}
 use Rattle.netlist.proofs.Double.{double-is}
 use Rattle.placing.specs.Places.{labAt, outOfRangeAt, placeTaken, detachedAt}
-use Rattle.labs.specs.Members.{members}
-use Rattle.labs.specs.Results.{resultAt, brokenLab, lowestBroken, hasCells, putRows}
-use Rattle.labs.specs.declared.LowestBroken.{LowestBroken}
-use Rattle.labs.proofs.Passing.{lowest-lab, lowest-number}
-use Rattle.labs.proofs.Rows.{rows-long}
-use Rattle.exercise.specs.Record.{knownAt}
+use Rattle.lab_pass.specs.Members.{members}
+use Rattle.lab_pass.specs.passes.Results.{resultAt, brokenLab, lowestBroken, hasCells, putRows}
+use Rattle.lab_pass.specs.declared.LowestBroken.{LowestBroken}
+use Rattle.lab_pass.proofs.Passing.{lowest-lab, lowest-number}
+use Rattle.lab_pass.proofs.Rows.{rows-long}
+use Rattle.exercise.specs.passes.Known.{knownAt}
 use Rattle.exercise.specs.declared.Record.{Record}
 use Rattle.judge.specs.declared.Fault.{Fault}
 use Rattle.judge.specs.declared.Finding.{Finding}
@@ -35,7 +36,8 @@ use Rattle.judge.specs.declared.Verdict.{Verdict}
 use Rattle.judge.specs.Judge.{finding, legal, ofAnswer, exerciseGroup, answerGroup, cellGroup, placeGroup, labGroup, checksTo51, checks, labCells, firstBroken, firstOr, lowestIn, culpritAt, culpritOf, verdictOf, judged, bytesOf, addressOf, routed}
 use Rattle.judge.specs.Numbers.{faultOf}
 use Rattle.judge.specs.Culprit.{Inside, CulpritLaw}
-use Rattle.judge.specs.Stages.{numberedAs, numbered, numberedLab, placedBy, numbersOf}
+use Rattle.judge.specs.passes.Stages.{numberedAs, numbered, numberedLab, placedBy}
+use Rattle.judge.specs.Judge.{numbersOf}
 use Rattle.judge.proofs.Broken.{first-append}
 use Rattle.judge.proofs.Numbers.{to-51-numbered}
 use Rattle.judge.proofs.Groups.{then, exercise-finds, answer-finds, cells-finds, cells-places-find, to-51-finds}

@@ -6,7 +6,7 @@ use mathlib.Core.Logic.{_↔_, _⊎_}
 use mathlib.Core.Bool.{true, false, cond}
 use mathlib.Core.List.{List, [], _∷_, _++_}
 use lib.ListN.{length, getD}
-use Rattle.sheet.specs.Lists.{elemb}
+use Rattle.sheet.specs.Lists.{Every, elemb}
 use Rattle.exercise.specs.Exercise.{cellCount, recordStart}
 use Rattle.answer.specs.Answer.{apprentice, placeStart}
 use Rattle.placing.specs.Places.{labAt}
@@ -14,7 +14,7 @@ use Rattle.route.specs.declared.Need.{Need}
 use Rattle.route.specs.Table.{Table}
 use Rattle.route.specs.Way.{Way, Earlier}
 use Rattle.route.specs.Route.{byteOfNeed}
-use Rattle.lab.specs.Rules.{needs, labRules}
+use Rattle.lab_rules.specs.Rules.{needs, labRules}
 use Rattle.judge.specs.declared.Verdict.{Verdict}
 use Rattle.judge.specs.Judge.{Check, checks, checksTo51, ofLab, labCells, occupied, ofExercise, ofAnswer, judged, routed, verdictOf}
 
@@ -53,8 +53,7 @@ pub record NamesCulprit (e a : List ℕ) (v : Verdict) : Type 0 where
 
 -- every check of a list holds
 unfoldable pub AllHold : List Check → Type 0
-AllHold [] = Unit {0}
-AllHold (k ∷ ks) = (k .broken ≡ false) × AllHold ks
+AllHold = Every (λ k. k .broken ≡ false)
 
 -- k is the first broken check of a list
 pub record FirstBroken (k : Check) (ks : List Check) : Type 0 where

@@ -13,11 +13,11 @@ use Rattle.answer.specs.Answer.{apprentice, placeCount, answerChecks, wrongAnsw
 use Rattle.exercise.specs.declared.Record.{Record}
 use Rattle.exercise.specs.declared.Record.the-variants.{Combinational, Register, Malformed}
 use Rattle.route.specs.Table.{Table}
-use Rattle.lab.specs.Rules.{labChecks, routeOf}
+use Rattle.lab_rules.specs.Rules.{labChecks, routeOf}
 use Rattle.netlist.specs.Cells.{cell, cellNumbers, malformed, doubleDriver, feeds, cellChecks}
-use Rattle.netlist.specs.Tables.{NONE}
+use Rattle.sheet.specs.Checks.{NONE}
 use Rattle.placing.specs.Places.{labAt, outOfRangeAt, placeTaken, follows}
-use Rattle.labs.specs.Members.{members}
+use Rattle.lab_pass.specs.Members.{members}
 use Rattle.judge.specs.declared.Fault.{Fault}
 use Rattle.judge.specs.declared.Fault.the-variants as fault
 use Rattle.judge.specs.declared.Finding.{Finding}
@@ -183,3 +183,7 @@ addressOf e a p = beginsAt (cond (p .«of_answer») a e) (p .start)
 unfoldable pub routed : Table → List ℕ → List ℕ → List ℕ → List ℕ
 routed t e a before =
     cond (eqb (judged t e a (length before) .number) 0) (concatMap (λ l. routeOf t (labCells e a l)) (below 1024)) before
+
+-- the four numbers of a verdict
+abbrev pub numbersOf : Verdict → List ℕ
+numbersOf v = v .number ∷ v .cell ∷ v .lab ∷ v .apprentice ∷ []

@@ -1,5 +1,5 @@
 pub mod Numbers
 pub mod Judge
 pub mod Demands
-pub mod Stages
 pub mod Culprit
+pub mod passes

@@ -1,6 +1,6 @@
-pub use netlist::NONE;
 use route::EntryTable;
 use sheet::CellNumber;
+pub use sheet::NONE;
 ghost use mathlib.Core.Path.{_≡_};
 ghost use mathlib.Core.Bool.{cond};
 ghost use mathlib.Core.List.{[], _∷_, _++_};
@@ -10,14 +10,16 @@ ghost use lib.Dec.{eqb, ltb};
 ghost use Rattle.sheet.specs.Lists.{concatMap, elemb, below};
 ghost use Rattle.sheet.specs.Bytes.{beginsAt};
 ghost use Rattle.exercise.specs.Exercise.{recordStart};
-ghost use Rattle.exercise.specs.Record.{knownAt};
+ghost use Rattle.exercise.specs.passes.Known.{knownAt};
 ghost use Rattle.answer.specs.Answer.{placeStart};
 ghost use Rattle.route.specs.Table.{houseBoard};
-ghost use Rattle.lab.specs.Rules.{routeOf};
+ghost use Rattle.lab_rules.specs.Rules.{routeOf};
 ghost use Rattle.judge.specs.Judge.{finding, legal, ofExercise, ofAnswer, exerciseGroup, answerGroup, cellGroup, placeGroup, labGroup, checksTo51, labCells, firstBroken, apprenticeOf, lowestIn, culpritOf, verdictOf, judged, bytesOf, addressOf, routed};
 ghost use Rattle.judge.specs.Numbers.{faultOf};
-ghost use Rattle.judge.specs.Stages.{numbered, placedBy, numbersOf};
-ghost use Rattle.netlist.specs.Tables.{NONE, numberAt};
+ghost use Rattle.judge.specs.passes.Stages.{numbered, placedBy};
+ghost use Rattle.judge.specs.Judge.{numbersOf};
+ghost use Rattle.sheet.specs.Checks.{NONE};
+ghost use Rattle.netlist.specs.passes.Tables.{numberAt};
 
 // The route buffer's length: eight bytes for each of 1,024 LABs.
 pub const ROUTE_SIZE: usize = 8192;
@@ -234,10 +236,10 @@ fn judge_labs(table: EntryTable, exercise: &[u8], answer: &[u8], route: &mut [u8
     let cells = exercise::cell_count(exercise);
     let mut first = [NONE; 1024];
     let mut next = [NONE; 512];
-    labs::link_cells(answer, cells, &mut first, &mut next);
+    lab_pass::link_cells(answer, cells, &mut first, &mut next);
     let mut rows = [255u8; 8192];
-    let found = labs::route_labs(table, exercise, &first, &next, &mut rows);
-    if found.lab < labs::LABS {
+    let found = lab_pass::route_labs(table, exercise, &first, &next, &mut rows);
+    if found.lab < lab_pass::LABS {
         return Finding {
             number: found.number,
             cell: NONE,

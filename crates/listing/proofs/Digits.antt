@@ -8,7 +8,8 @@ use borrow.Author.Tests.{lt-ltb, le-ltb, ltb-true, ltb-false}
 use lib.Dec.{ltb}
 use lib.ListN.{length, length-append}
 use Rattle.sheet.proofs.Laws.{by-test}
-use Rattle.listing.specs.Text.{digit, digits, decimal, valueAfter, valueOf, Writes}
+use Rattle.listing.specs.Text.{digit, digits, decimal, valueAfter, valueOf}
+use Rattle.listing.specs.passes.Writes.{Writes}
 use Rattle.listing.proofs.Writing.{_then_, within}
 
 -- how many digits are allowed for does not matter

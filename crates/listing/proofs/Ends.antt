@@ -9,9 +9,10 @@ use Rattle.exercise.specs.Exercise.{cellCount}
 use Rattle.route.specs.Table.{Table, houseBoard}
 use Rattle.judge.specs.declared.Verdict.{Verdict}
 use Rattle.judge.specs.Judge.{judged, routed}
-use Rattle.listing.specs.Text.{overwrite, MOST, Writes}
+use Rattle.listing.specs.Text.{overwrite, MOST}
+use Rattle.listing.specs.passes.Writes.{Writes}
 use Rattle.listing.specs.Listing.{verdictLine, labLines, listing}
-use Rattle.listing.specs.Marks.{markedFrom, linesFrom}
+use Rattle.listing.specs.passes.Marks.{markedFrom, linesFrom}
 use Rattle.listing.proofs.Writing.{_then_, nothing, within}
 use Rattle.listing.proofs.Marked.{legal-lines}
 

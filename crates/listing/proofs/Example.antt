@@ -5,9 +5,9 @@ use mathlib.Core.List.{List, [], _∷_, _++_}
 use Rattle.sheet.specs.Lists.{concatMap}
 use Rattle.judge.specs.Judge.{carryNotNext, labCells, occupied, roomChecks, exerciseGroup, answerGroup, cellGroup}
 use Rattle.judge.specs.Judge.{placeGroup, labGroup, checksTo51, checks, apprenticeOf, verdictOf, judged}
-use Rattle.lab.specs.Ports.{counted, clockPair, inUse, needed, inLab, inputs, netsIn}
-use Rattle.lab.specs.Rules.{tooManyClocks, tooManyPairs, tooManyClears, tooManySynchronous, tooManyNets, needs, noWay, routeOf}
-use Rattle.labs.specs.Members.{members}
+use Rattle.lab_rules.specs.Ports.{counted, clockPair, inUse, needed, inLab, inputs, netsIn}
+use Rattle.lab_rules.specs.Rules.{tooManyClocks, tooManyPairs, tooManyClears, tooManySynchronous, tooManyNets, needs, noWay, routeOf}
+use Rattle.lab_pass.specs.Members.{members}
 use Rattle.netlist.specs.Cells.{cell, malformed, driven, doubleDriver, feeds, carryInNotFed, carryOutNotReadOnce, cellChecks}
 use Rattle.placing.specs.Places.{labAt, outOfRangeAt, samePlace, placeTaken}
 use Rattle.route.specs.Way.{isWay, entryLists, ways, earliestWay}

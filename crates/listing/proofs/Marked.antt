@@ -2,7 +2,7 @@
 -- Assumes nothing.
 use Prim.Native.Nat.{ℕ, zero, suc, _+_, _-_, _*_, _≤_, _<_}
 use mathlib.Core.Path.{_≡_, refl, sym, ap, _∙_}
-use mathlib.Core.Bool.{Bool, true, false, _||_}
+use mathlib.Core.Bool.{Bool, true, false, _||_, or-assoc, or-true, or-false}
 use mathlib.Core.List.{List, [], _∷_, _++_}
 use native.Mathlib.Nat.{add-zero}
 use native.Mathlib.Numerals.{add-one}
@@ -17,13 +17,13 @@ use Rattle.exercise.specs.Exercise.{cellCount}
 use Rattle.sheet.proofs.Laws.{by-test}
 use Rattle.route.specs.Table.{houseBoard}
 use Rattle.route.specs.Way.{earliestWay}
-use Rattle.lab.specs.Rules.{needs, routeOf}
+use Rattle.lab_rules.specs.Rules.{needs, routeOf}
 use Rattle.placing.specs.Places.{labAt}
 use Rattle.judge.specs.Judge.{labCells, occupied, judged, routed}
 use Rattle.judge.proofs.RouteHeld.{row-at, route-eight, written}
-use Rattle.listing.specs.Text.{Writes}
+use Rattle.listing.specs.passes.Writes.{Writes}
 use Rattle.listing.specs.Listing.{labLine, labLines}
-use Rattle.listing.specs.Marks.{markedFrom, isMarked, rowAt, lineAt, linesFrom}
+use Rattle.listing.specs.passes.Marks.{markedFrom, isMarked, rowAt, lineAt, linesFrom}
 use Rattle.listing.proofs.Writing.{over-one, nothing, same-long}
 
 -- ---- the loop of `mark_labs`
@@ -48,18 +48,6 @@ unfolding markedFrom
 mark-ends a n m₀ m i s h = let none : n - i ≡ zero = omega arith in sym (s .same ∙ rw none)
 
 -- ---- a LAB is marked where it was, or where a cell stands in it
-or-assoc : (a b c : Bool) → (a || b) || c ≡ a || (b || c)
-or-assoc true b c = refl
-or-assoc false b c = refl
-
-or-true : (a : Bool) → a || true ≡ true
-or-true true = refl
-or-true false = refl
-
-or-false : (a : Bool) → a || false ≡ a
-or-false true = refl
-or-false false = refl
-
 mark-one : (m : List ℕ) (at l : ℕ) → l < length m → isMarked (set m at 1) l ≡ isMarked m l || eqb at l
 mark-one m at l h =
     by-test (eqb at l)

@@ -6,7 +6,8 @@ use native.Mathlib.Omega.{arith}
 use native.Mathlib.Numerals.{add-one}
 use lib.ListN.{length, set, getD, take, drop, length-append, drop-of-length-le}
 use lib.Seq.{set-out, drop-cons, sets, length-sets, sets-eq, take-append-seam}
-use Rattle.listing.specs.Text.{overwrite, Fits, Writes}
+use Rattle.listing.specs.Text.{overwrite}
+use Rattle.listing.specs.passes.Writes.{Fits, Writes}
 
 -- ---- the buffer
 sets-append : (l : List ℕ) (at : ℕ) (a b : List ℕ) → sets (sets l at a) (at + length a) b ≡ sets l at (a ++ b)

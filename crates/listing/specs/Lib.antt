@@ -1,3 +1,3 @@
 pub mod Text
 pub mod Listing
-pub mod Marks
+pub mod passes

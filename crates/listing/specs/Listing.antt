@@ -7,8 +7,8 @@ use lib.Dec.{eqb}
 use lib.ListN.{getD}
 use Rattle.sheet.specs.Lists.{concatMap, filterb, below}
 use Rattle.route.specs.Table.{houseBoard}
-use Rattle.lab.specs.Rules.{routeOf}
-use Rattle.netlist.specs.Tables.{NONE}
+use Rattle.lab_rules.specs.Rules.{routeOf}
+use Rattle.sheet.specs.Checks.{NONE}
 use Rattle.judge.specs.declared.Verdict.{Verdict}
 use Rattle.judge.specs.Judge.{labCells, occupied, judged}
 use Rattle.listing.specs.Text.{ascii, decimal}

@@ -44,13 +44,3 @@ overwrite buffer at text = sets buffer at text
 -- no listing is longer: 72 bytes for the verdict line and 127 for each of 1,024 LABs
 abbrev pub MOST : ℕ
 MOST = 72 + 127 * 1024
-
--- a text of at most so many bytes ends within the longest listing
-abbrev pub Fits : ℕ → ℕ → Type 0
-Fits at most = at + most ≤ MOST
-
--- a text of at most `most` bytes was written at a place: the buffer was `before` and is `after`, and `next` is the place past the text
-pub record Writes (before : List ℕ) (at : ℕ) (text : List ℕ) (most : ℕ) (after : List ℕ) (next : ℕ) : Type 0 where
-  pub stored : after ≡ overwrite before at text
-  pub past : next ≡ at + length text
-  pub short : next ≤ at + most

@@ -5,9 +5,10 @@ ghost use mathlib.Core.Path.{_≡_};
 ghost use mathlib.Core.List.{[], _∷_, _++_};
 ghost use Prim.Native.Nat.{_+_, _≤_};
 ghost use lib.ListN.{length};
-ghost use Rattle.listing.specs.Text.{ascii, decimal, overwrite, MOST, Fits, Writes};
+ghost use Rattle.listing.specs.Text.{ascii, decimal, overwrite, MOST};
+ghost use Rattle.listing.specs.passes.Writes.{Fits, Writes};
 ghost use Rattle.listing.specs.Listing.{orDash, place, entry, verdictLine, labLine, listing};
-ghost use Rattle.listing.specs.Marks.{rowAt, markedFrom, lineAt, linesFrom};
+ghost use Rattle.listing.specs.passes.Marks.{rowAt, markedFrom, lineAt, linesFrom};
 
 // No listing is longer, so a buffer of this size always has room: 72 bytes for the verdict line and 127 for each LAB.
 pub const MOST: usize = 72 + 127 * 1024;
@@ -162,7 +163,7 @@ fn lab_lines(out: &mut [u8], at: usize, marks: &[u8], route: &[u8]) -> usize
 {
     let mut next = at;
     let mut lab: u16 = 0;
-    while lab < labs::LABS {
+    while lab < lab_pass::LABS {
         next = line_at(out, next, marks, route, lab);
         lab += 1;
     }

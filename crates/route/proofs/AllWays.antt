@@ -16,7 +16,7 @@ use Rattle.sheet.proofs.Laws.{by-test, and-parts, or-parts}
 use Rattle.route.specs.declared.Need.{Need}
 use Rattle.route.specs.Table.{Table, serves, needAt}
 use Rattle.route.specs.Way.{Way, Earlier, isWay, entryLists, ways, firstOf, earliestWay}
-use Rattle.route.specs.Search.{attempt, pick, foundWay}
+use Rattle.route.specs.passes.Search.{attempt, pick, foundWay}
 use Rattle.route.proofs.Search.{First, Begun, first-none, first-some, first-found, first-same, pick-first}
 use Rattle.route.proofs.Ways.{served-low, first-way}
 

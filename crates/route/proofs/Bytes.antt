@@ -16,7 +16,7 @@ use Rattle.route.specs.declared.LabRoute.{LabRoute}
 use Rattle.route.specs.Table.{Table, needAt, noNeed}
 use Rattle.route.specs.Way.{earliestWay}
 use Rattle.route.specs.Route.{entriesFor, eightBytes, labRouteOf}
-use Rattle.route.specs.Partial.{routedOf}
+use Rattle.route.specs.passes.Partial.{routedOf}
 use Rattle.route.proofs.AllWays.{earliest-some, no-needs}
 
 -- the entries of the role's needs from need i on

@@ -8,7 +8,7 @@ use mathlib.Core.Option.{Option, none, some}
 use native.Mathlib.Nat.{eq-or-lt-of-le, zero-add}
 use native.Mathlib.Omega.{arith}
 use Rattle.route.specs.Way.{Earlier}
-use Rattle.route.specs.Search.{attempt, pick, searchFrom}
+use Rattle.route.specs.passes.Search.{attempt, pick, searchFrom}
 
 -- the first of all the lists that P holds of: none where there is no such list, else one that is earlier than every other
 unfoldable pub First : (List ℕ → Type 0) → Option (List ℕ) → Type 0

@@ -9,8 +9,8 @@ use native.Mathlib.Omega.{arith}
 use lib.ListN.{length, getD, set, replicate}
 use lib.Seq.{slice, slice-cons, slice-empty}
 use Rattle.route.specs.declared.Routed.{Routed}
-use Rattle.route.specs.Search.{attempt, pick, searchFrom}
-use Rattle.route.specs.Partial.{put, routedFrom}
+use Rattle.route.specs.passes.Search.{attempt, pick, searchFrom}
+use Rattle.route.specs.passes.Partial.{put, routedFrom}
 
 -- of the entries from e up to size, e is tried and then those from e + 1 on
 module _ (ok : ℕ → Bool) (rest : ℕ → Option (List ℕ)) (size e : ℕ) where

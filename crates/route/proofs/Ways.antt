@@ -13,7 +13,7 @@ use lib.Seq.{getD-set-same, getD-set-other}
 use Rattle.route.specs.declared.Need.{Need}
 use Rattle.route.specs.Table.{Table, serves, needAt}
 use Rattle.route.specs.Way.{Way, Earlier}
-use Rattle.route.specs.Search.{mayHave, takenBy, foundWay}
+use Rattle.route.specs.passes.Search.{mayHave, takenBy, foundWay}
 use Rattle.route.proofs.Search.{First, Given, first-same, search-first}
 
 -- ---- one entry

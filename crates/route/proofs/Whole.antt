@@ -11,8 +11,8 @@ use lib.Seq.{slice, sets, sets-eq, set-comm, take-all}
 use Rattle.route.specs.declared.Need.{Need}
 use Rattle.route.specs.Table.{Table, ENTRIES}
 use Rattle.route.specs.Way.{earliestWay}
-use Rattle.route.specs.Search.{searchFrom, mayHave, takenBy, foundWay}
-use Rattle.route.specs.Partial.{put, routedFrom, routedOf}
+use Rattle.route.specs.passes.Search.{searchFrom, mayHave, takenBy, foundWay}
+use Rattle.route.specs.passes.Partial.{put, routedFrom, routedOf}
 use Rattle.route.proofs.AllWays.{found-earliest, earliest-some}
 
 sets-set : (l : List ℕ) (i j a : ℕ) (w : List ℕ) → i < j → sets (set l i a) j w ≡ set (sets l j w) i a

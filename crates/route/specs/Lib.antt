@@ -1,5 +1,4 @@
 pub mod Table
 pub mod Way
-pub mod Search
 pub mod Route
-pub mod Partial
+pub mod passes

@@ -7,9 +7,9 @@ ghost use lib.ListN.{length, take, set, replicate, getD};
 ghost use lib.Seq.{slice};
 ghost use Rattle.route.specs.Table.{ENTRIES, houseBoard, needList, noNeeds, withNeed};
 ghost use Rattle.route.specs.Way.{earliestWay};
-ghost use Rattle.route.specs.Search.{searchFrom, mayHave, takenBy};
+ghost use Rattle.route.specs.passes.Search.{searchFrom, mayHave, takenBy};
 ghost use Rattle.route.specs.Route.{byteFor, eightBytes, labRouteOf};
-ghost use Rattle.route.specs.Partial.{routedFrom, routedOf};
+ghost use Rattle.route.specs.passes.Partial.{routedFrom, routedOf};
 
 // What a register asks of its LAB: an entry of this role for this signal.
 pub struct Need {

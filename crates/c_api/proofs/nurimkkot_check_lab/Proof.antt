@@ -40,16 +40,16 @@ use denote.Triple.Walked.{says, Stays, stay-none-slice, gave-ref, walkOf, goes-n
 use denote.Exit.{yes}
 use denote.Triple.Clauses.{ensured, lasts}
 use Rattle.route.specs.Table.{houseBoard}
-use Rattle.lab.specs.declared.LabResult.{LabResult}
-use Rattle.lab_list.specs.ListCheck.{listVerdict}
-use Rattle.lab_list.specs.declared.CellRecord.{CellRecord}
-use Rattle.lab.proofs.LabResult as R
-use Rattle.lab.proofs.LabResult.Laws as R′
-use Rattle.lab_list.proofs.CellRecord as X
-use Rattle.lab_list.proofs.check_list as check
-use Rattle.lab_list.proofs.check_list.Symbol as check-def
-use Rattle.lab_list.proofs.check_list.Symbol.{name as #check}
-use Rattle.lab_list.proofs.check_list.Met as check-thm
+use Rattle.lab_rules.specs.declared.LabResult.{LabResult}
+use Rattle.list_check.specs.ListCheck.{listVerdict}
+use Rattle.list_check.specs.declared.CellRecord.{CellRecord}
+use Rattle.lab_rules.proofs.LabResult as R
+use Rattle.lab_rules.proofs.LabResult.Laws as R′
+use Rattle.list_check.proofs.CellRecord as X
+use Rattle.list_check.proofs.check_list as check
+use Rattle.list_check.proofs.check_list.Symbol as check-def
+use Rattle.list_check.proofs.check_list.Symbol.{name as #check}
+use Rattle.list_check.proofs.check_list.Met as check-thm
 use Rattle.c_api.proofs.tell as tell
 use Rattle.c_api.proofs.tell.Symbol as tell-def
 use Rattle.c_api.proofs.tell.Symbol.{name as #tell}
@@ -185,5 +185,5 @@ nurimkkot-check-lab-spec 𝓤 H 𝓜 𝓖 𝓡 =
     entered 𝓤 H (tripleOf 𝓤 H (𝓖 .A) here.signature (here.spec 𝓤 H (𝓖 .A) (𝓜 .mem) (𝓡 .run)))
     (tables 𝓤 H 𝓜 𝓡 code.env .C) (tables 𝓤 H 𝓜 𝓡 code.env .Λ) #here code.function (code.unfolded 𝓤 H 𝓜 𝓡)
     (here-meets 𝓤 H (𝓖 .A) (givenOf 𝓤 H 𝓜 𝓖) (𝓜 .mem) (𝓡 .run) (tablesOf 𝓤 H 𝓜 (tables 𝓤 H 𝓜 𝓡 code.env))
-    (cited 𝓤 H (Check 𝓤 H (𝓖 .A) (𝓜 .mem) (𝓡 .run)) 𝓜 𝓡 code.env #check check-def.routine code.calls-lab-list·check-list (check-thm.met 𝓤 H 𝓜 𝓖 𝓡))
+    (cited 𝓤 H (Check 𝓤 H (𝓖 .A) (𝓜 .mem) (𝓡 .run)) 𝓜 𝓡 code.env #check check-def.routine code.calls-list-check·check-list (check-thm.met 𝓤 H 𝓜 𝓖 𝓡))
     (cited 𝓤 H (Tell 𝓤 H (𝓖 .A) (𝓜 .mem) (𝓡 .run)) 𝓜 𝓡 code.env #tell tell-def.routine code.calls-c-api·tell (tell-thm.met 𝓤 H 𝓜 𝓖 𝓡)))

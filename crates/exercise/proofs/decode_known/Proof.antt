@@ -1,7 +1,7 @@
 -- The tests that led to each answer pick the same case of `knownOf`.
 use Rattle.exercise.proofs.Known.{combinational-same, register-same}
 use Rattle.sheet.proofs.Laws.{tested, compared}
-use Rattle.exercise.specs.Record.{knownOf}
+use Rattle.exercise.specs.passes.Known.{knownOf}
 use borrow.Author.Needs.{needs}
 use Rattle.exercise.proofs.decode_known.Statement.{statement}
 use Rattle.exercise.proofs.decode_known.Tie as tie

@@ -1,5 +1,5 @@
 -- The part that is decoded is the cell's record.
-use Rattle.exercise.specs.Record.{knownAt}
+use Rattle.exercise.specs.passes.Known.{knownAt}
 use borrow.Author.Needs.{needs}
 use Rattle.exercise.proofs.known_record_at.Statement.{statement}
 use Rattle.exercise.proofs.known_record_at.Tie as tie

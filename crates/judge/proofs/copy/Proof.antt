@@ -2,7 +2,7 @@
 use Prim.Native.Nat.{_-_}
 use mathlib.Core.Path.{refl}
 use lib.ListN.{length, getD}
-use Rattle.labs.proofs.Filling.{Written, write-starts, write-goes, copy-ends}
+use Rattle.lab_pass.proofs.Filling.{Written, write-starts, write-goes, copy-ends}
 use borrow.Author.Needs.{needs}
 use Rattle.judge.proofs.copy.Statement.{statement}
 use Rattle.judge.proofs.copy.Tie as tie

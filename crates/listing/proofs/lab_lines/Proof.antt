@@ -2,7 +2,7 @@
 use Prim.Native.Nat.{_+_, _*_, _-_, _≤_}
 use native.Mathlib.Omega.{arith}
 use borrow.Author.Needs.{needs}
-use Rattle.listing.specs.Marks.{linesFrom}
+use Rattle.listing.specs.passes.Marks.{linesFrom}
 use Rattle.listing.proofs.Writing.{Left, left-starts, left-goes, left-ends}
 use Rattle.listing.proofs.Marked.{lines-step, lines-end}
 use Rattle.listing.proofs.lab_lines.Statement.{statement}

@@ -1,5 +1,5 @@
 -- The eight reads.
-use Rattle.listing.specs.Marks.{rowAt}
+use Rattle.listing.specs.passes.Marks.{rowAt}
 use borrow.Author.Needs.{needs}
 use Rattle.listing.proofs.row.Statement.{statement}
 use Rattle.listing.proofs.row.Tie as tie

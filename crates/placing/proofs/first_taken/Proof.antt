@@ -6,7 +6,7 @@ use lib.Dec.{eqb}
 use borrow.Author.Tests.{eq-eqb, ne-eqb}
 use borrow.Author.Needs.{needs}
 use Rattle.sheet.proofs.Scan.{Scanned, scan-stops-at, some-found, scan, scans}
-use Rattle.placing.specs.Keys.{keyTaken}
+use Rattle.placing.specs.passes.Keys.{keyTaken}
 use Rattle.placing.proofs.first_taken.Statement.{statement}
 use Rattle.placing.proofs.first_taken.Tie as tie
 

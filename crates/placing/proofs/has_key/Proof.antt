@@ -1,5 +1,5 @@
 -- The parts are the tests of the definition on what was read.
-use Rattle.placing.specs.Keys.{hasKey}
+use Rattle.placing.specs.passes.Keys.{hasKey}
 use borrow.Author.Needs.{needs}
 use Rattle.placing.proofs.has_key.Statement.{statement}
 use Rattle.placing.proofs.has_key.Tie as tie

@@ -1,6 +1,6 @@
 -- A cell that has a key has kind 1 or 2, so the difference does not wrap, and with its LAB and LE in range the sum stays below 32,768.
 use Rattle.placing.specs.Places.{labAt}
-use Rattle.placing.specs.Keys.{key}
+use Rattle.placing.specs.passes.Keys.{key}
 use Rattle.placing.proofs.Keys.{keyed-cell}
 use native.Mathlib.Omega.{arith}
 use borrow.Author.Needs.{needs}

@@ -13,8 +13,8 @@ use native.Mathlib.Omega.{arith}
 use lib.Seq.{slice}
 use Rattle.route.specs.declared.Need.{Need}
 use Rattle.route.specs.Table.{Table, ENTRIES, needAt, noNeed}
-use Rattle.route.specs.Search.{pick, searchFrom, mayHave, takenBy}
-use Rattle.route.specs.Partial.{routedFrom}
+use Rattle.route.specs.passes.Search.{pick, searchFrom, mayHave, takenBy}
+use Rattle.route.specs.passes.Partial.{routedFrom}
 use Rattle.route.proofs.Steps.{pick-step, pick-end, not-given, not-found, is-found, search-start, search-end, no-entry-left}
 use Rattle.route.proofs.place.Reads as place
 use Rattle.route.proofs.place.Kinds as place-kinds

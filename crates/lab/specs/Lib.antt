@@ -1,4 +1,0 @@
-pub mod Ports
-pub mod Rules
-pub mod Counts
-pub mod Examples

@@ -1,3 +1,0 @@
-pub mod ListCheck
-pub mod AnyList
-pub mod Agreement

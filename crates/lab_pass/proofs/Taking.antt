@@ -1,0 +1,78 @@
+-- How the loop of `count_cells` goes: the cells that are left of the list make the rest of the counts and of the marks. And a list without cells
+-- keeps every rule and has no route. Assumes nothing.
+use Prim.Native.Nat.{ℕ, zero, suc, _+_, _-_, _≤_, _<_}
+use mathlib.Core.Path.{_≡_, refl, sym, _∙_}
+use mathlib.Core.Bool.{Bool, true, false, cond}
+use mathlib.Core.List.{List, [], _∷_, map}
+use native.Mathlib.Nat.{sub-zero}
+use native.Mathlib.Omega.{arith}
+use lib.ListN.{length, getD, replicate}
+use borrow.Author.Tests.{lt-ltb}
+use Rattle.exercise.specs.declared.Record.{Record}
+use Rattle.distinct.specs.passes.Marks.{markAll, readMarks}
+use Rattle.distinct.specs.passes.UpToTwo.{codesOf}
+use Rattle.route.specs.Table.{Table}
+use Rattle.route.specs.Route.{eightBytes, labRouteOf}
+use Rattle.route.proofs.AllWays.{no-needs}
+use Rattle.lab_rules.specs.passes.Counts.{noCounts, countsWith, countsAll, usesOf, markCells, brokenBy, onlyCode, needsHeld, resultFrom}
+use Rattle.lab_rules.specs.declared.Counts.{Counts}
+use Rattle.lab_rules.proofs.Folded.{marks-cons}
+use Rattle.sheet.specs.Checks.{NONE}
+use Rattle.lab_pass.specs.passes.Links.{walk}
+use Rattle.lab_pass.specs.passes.Results.{markedIf, resultOf}
+
+-- the first of some cells is marked before the others
+marked-cons : (b : Bool) (m : List ℕ) (c : Record) (cs : List Record) → markedIf b m (c ∷ cs) ≡ markedIf b (cond b (markAll m (usesOf c)) m) cs
+unfolding markedIf
+marked-cons true m c cs = rw marks-cons
+marked-cons false m c cs = refl
+
+marked-none : (b : Bool) (m : List ℕ) → markedIf b m [] ≡ m
+unfolding markedIf markCells markAll
+marked-none true m = refl
+marked-none false m = refl
+
+-- k of at most n cells are taken, and their nets marked where b
+pub record Taken (get : ℕ → Record) (next : List ℕ) (n start : ℕ) (b : Bool) (m₀ : List ℕ) (counts : Counts) (marks : List ℕ) (at k : ℕ) : Type 0 where
+  pub within : k ≤ n
+  pub counted : countsAll noCounts (map get (walk next start n)) ≡ countsAll counts (map get (walk next at (n - k)))
+  pub marked : markedIf b m₀ (map get (walk next start n)) ≡ markedIf b marks (map get (walk next at (n - k)))
+
+module _ (get : ℕ → Record) (next : List ℕ) (n start : ℕ) (b : Bool) (m₀ : List ℕ) where
+  pub take-starts : (counts : Counts) → counts ≡ noCounts → Taken get next n start b m₀ counts m₀ start 0
+  take-starts counts z = record { within = omega arith; counted = rw (sub-zero n, z); marked = rw (sub-zero n) }
+
+  module _ (counts : Counts) (marks : List ℕ) (at k : ℕ) (s : Taken get next n start b m₀ counts marks at k) where
+    pub take-goes : (cell : Record) (counts′ : Counts) (marks′ : List ℕ) (at′ : ℕ) → k < n → at < length next → cell ≡ get at
+        → counts′ ≡ countsWith counts cell → marks′ ≡ cond b (markAll marks (usesOf cell)) marks → at′ ≡ getD next at NONE
+        → Taken get next n start b m₀ counts′ marks′ at′ (k + 1)
+    unfolding walk countsAll
+    take-goes cell counts′ marks′ at′ h l c p q r =
+        let more : n - k ≡ suc (n - (k + 1)) = omega arith in
+        record {
+          within = omega arith;
+          counted = s .counted ∙ rw (more, lt-ltb at (length next) l, p, c, r);
+          marked = s .marked ∙ rw (more, lt-ltb at (length next) l, q, c, r, marked-cons);
+        }
+
+    pub take-ends : walk next at (n - k) ≡ []
+        → (counts ≡ countsAll noCounts (map get (walk next start n))) × (marks ≡ markedIf b m₀ (map get (walk next start n)))
+    unfolding countsAll
+    take-ends z = (sym (s .counted ∙ rw z), sym (s .marked ∙ rw (z, marked-none)))
+
+pub walk-all : (next : List ℕ) (at n k : ℕ) → n ≤ k → walk next at (n - k) ≡ []
+unfolding walk
+walk-all next at n k h = let none : n - k ≡ zero = omega arith in rw none
+
+pub no-marks : (n : ℕ) → readMarks (replicate n 0) ≡ 0
+unfolding readMarks
+no-marks zero = refl
+no-marks (suc n) = no-marks n
+
+nothing-broken : (t : Table) (m : ℕ) → m ≡ 0 → resultFrom t noCounts m ≡ record { number = 0; bytes = replicate 8 255 }
+unfolding resultFrom brokenBy needsHeld codesOf onlyCode labRouteOf eightBytes
+nothing-broken t m z = rw (z, no-needs t)
+
+pub result-none : (t : Table) (get : ℕ → Record) → resultOf t get [] ≡ record { number = 0; bytes = replicate 8 255 }
+unfolding resultOf countsAll markCells markAll
+result-none t get = nothing-broken t (readMarks (replicate 1024 0)) (no-marks 1024)

@@ -1,0 +1,55 @@
+-- The result of each LAB from the lists of cells, and the rows of route bytes. `t` is the entry table, `cell` gives what each
+-- cell's record says. Assumes nothing.
+use Prim.Native.Nat.{ℕ, zero, suc, _+_, _*_}
+use mathlib.Core.Bool.{Bool, cond, not}
+use mathlib.Core.List.{List, map}
+use lib.ListN.{length, getD, set, replicate}
+use lib.Dec.{eqb, ltb}
+use Rattle.sheet.specs.Lists.{firstFrom}
+use Rattle.exercise.specs.declared.Record.{Record}
+use Rattle.distinct.specs.passes.Marks.{readMarks}
+use Rattle.route.specs.Table.{Table}
+use Rattle.lab_rules.specs.passes.Counts.{noCounts, countsAll, markCells, resultFrom}
+use Rattle.lab_rules.specs.declared.LabResult.{LabResult}
+use Rattle.sheet.specs.Checks.{NONE}
+use Rattle.lab_pass.specs.passes.Links.{walk}
+use Rattle.lab_pass.specs.declared.LowestBroken.{LowestBroken}
+
+-- the result of a LAB with these cells, handed over one by one
+unfoldable pub resultOf : Table → (ℕ → Record) → List ℕ → LabResult
+resultOf t cell is =
+    resultFrom t (countsAll noCounts (map cell is)) (readMarks (markCells (replicate 1024 0) (map cell is)))
+
+-- the marks of cells, where they are wanted
+unfoldable pub markedIf : Bool → List ℕ → List Record → List ℕ
+markedIf b marks cs = cond b (markCells marks cs) marks
+
+-- the result of LAB l
+unfoldable pub resultAt : Table → (ℕ → Record) → List ℕ → List ℕ → ℕ → LabResult
+resultAt t cell first next l = resultOf t cell (walk next (getD first l NONE) 512)
+
+-- LAB l breaks one of 60 to 65
+unfoldable pub brokenLab : Table → (ℕ → Record) → List ℕ → List ℕ → ℕ → Bool
+brokenLab t cell first next l = not (eqb (resultAt t cell first next l .number) 0)
+
+-- the lowest LAB that breaks one of 60 to 65 and the number, or 1,024 and 0
+unfoldable pub lowestBroken : Table → (ℕ → Record) → List ℕ → List ℕ → LowestBroken
+lowestBroken t cell first next =
+    let l = firstFrom (brokenLab t cell first next) 0 1024 in
+    record { lab = l; number = cond (ltb l 1024) (resultAt t cell first next l .number) 0 }
+
+-- LAB l has a cell
+unfoldable pub hasCells : List ℕ → List ℕ → ℕ → Bool
+hasCells first next l = ltb (getD first l NONE) (length next)
+
+-- the eight bytes b of LAB l, put into the rows: "8 bytes per LAB at 8 × LAB number"
+unfoldable pub putRow : List ℕ → ℕ → List ℕ → List ℕ
+putRow rows l b =
+    let at = 8 * l in
+    let half = set (set (set (set rows at (getD b 0 0)) (at + 1) (getD b 1 0)) (at + 2) (getD b 2 0)) (at + 3) (getD b 3 0) in
+    set (set (set (set half (at + 4) (getD b 4 0)) (at + 5) (getD b 5 0)) (at + 6) (getD b 6 0)) (at + 7) (getD b 7 0)
+
+-- the bytes of those LABs below k that pass a test, put into the rows
+unfoldable pub putRows : (ℕ → Bool) → (ℕ → List ℕ) → List ℕ → ℕ → List ℕ
+putRows some bytes rows zero = rows
+putRows some bytes rows (suc k) = cond (some k) (putRow (putRows some bytes rows k) k (bytes k)) (putRows some bytes rows k)

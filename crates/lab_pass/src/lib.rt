@@ -1,0 +1,186 @@
+use exercise::Record;
+use lab_rules::Counts;
+use lab_rules::LabResult;
+use route::EntryTable;
+use sheet::CellNumber;
+ghost use mathlib.Core.Path.{_≡_};
+ghost use mathlib.Core.Bool.{cond};
+ghost use mathlib.Core.List.{map};
+ghost use Prim.Native.Nat.{_<_};
+ghost use lib.ListN.{length, getD, set};
+ghost use lib.Dec.{leb};
+ghost use Rattle.exercise.specs.passes.Known.{knownAt};
+ghost use Rattle.distinct.specs.passes.Marks.{markAll};
+ghost use Rattle.lab_rules.specs.passes.Counts.{noCounts, countsAll, usesOf};
+ghost use Rattle.lab_pass.specs.passes.Links.{Links, link, linkBelow, walk};
+ghost use Rattle.lab_pass.specs.passes.Results.{markedIf, resultOf, resultAt, hasCells, lowestBroken, putRow, putRows};
+
+// The number of LABs.
+pub const LABS: u16 = 1024;
+
+// The lowest LAB that breaks one of 60 to 65 and the number, or 1,024 and 0.
+pub struct LowestBroken {
+    pub lab: u16,
+    pub number: u8,
+}
+
+// Puts every cell into the list of its LAB, rising: `first` has a LAB's first cell, `next` the next cell of the same LAB.
+pub fn link_cells(answer: &[u8], cells: u16, first: &mut [u16], next: &mut [u16])
+    ensures firsts { λ _. ⌜ now (first .exit) ≡ linkBelow (now (answer .entry)) (record { first = now (first .entry); next = now (next .entry) }) cells .first ⌝ }
+    ensures nexts { λ _. ⌜ now (next .exit) ≡ linkBelow (now (answer .entry)) (record { first = now (first .entry); next = now (next .entry) }) cells .next ⌝ }
+{
+    let mut i = cells;
+    while 0 < i {
+        i -= 1;
+        link(answer, CellNumber(i), first, next);
+    }
+}
+
+// Puts a cell in front of its LAB's list.
+fn link(answer: &[u8], i: CellNumber, first: &mut [u16], next: &mut [u16])
+    ensures firsts { λ _. ⌜ now (first .exit) ≡ link (now (answer .entry)) (record { first = now (first .entry); next = now (next .entry) }) (i .0) .first ⌝ }
+    ensures nexts { λ _. ⌜ now (next .exit) ≡ link (now (answer .entry)) (record { first = now (first .entry); next = now (next .entry) }) (i .0) .next ⌝ }
+{
+    let lab = placing::lab_of(answer, i) as usize;
+    store(next, i.0 as usize, entry(first, lab));
+    store(first, lab, i.0);
+}
+
+// Stores a cell in a table, where the table has the place.
+fn store(table: &mut [u16], i: usize, cell: u16)
+    ensures { λ _. ⌜ now (table .exit) ≡ set (now (table .entry)) i cell ⌝ }
+{
+    if i < table.len() {
+        table[i] = cell;
+    }
+}
+
+// An entry of a table of cells, 65,535 past its end.
+fn entry(table: &[u16], i: usize) -> u16
+    ensures { λ r. ⌜ r ≡ getD (now (table .entry)) i 65535 ⌝ }
+{
+    if i < table.len() {
+        return table[i];
+    }
+    sheet::NONE
+}
+
+// Whether the list that begins with a cell has five cells at the most.
+fn is_short(next: &[u16], start: u16) -> bool
+    ensures { λ r. ⌜ r ≡ leb (length (walk (now (next .entry)) start 512)) 5 ⌝ }
+{
+    let mut at = start;
+    let mut k: usize = 0;
+    while k < 6 {
+        if next.len() <= at as usize {
+            return true;
+        }
+        at = entry(next, at as usize);
+        k += 1;
+    }
+    false
+}
+
+// Marks the nets that a cell reads and drives, where they are to be marked.
+fn mark_if(marking: bool, marks: &mut [u8; 1024], cell: Record)
+    ensures { λ _. ⌜ now (marks .exit) ≡ cond marking (markAll (now (marks .entry)) (usesOf cell)) (now (marks .entry)) ⌝ }
+{
+    if marking {
+        lab_rules::mark_cell(marks, cell);
+    }
+}
+
+// The walk over the list that begins with a cell: counts its cells, and marks their nets where they are to be marked.
+fn count_cells(
+    exercise: &[u8],
+    next: &[u16],
+    start: u16,
+    marking: bool,
+    marks: &mut [u8; 1024],
+) -> Counts
+    ensures counted { λ r. ⌜ r ≡ countsAll noCounts (map (knownAt (now (exercise .entry))) (walk (now (next .entry)) start 512)) ⌝ }
+    ensures marked { λ _. ⌜ now (marks .exit) ≡ markedIf marking (now (marks .entry)) (map (knownAt (now (exercise .entry))) (walk (now (next .entry)) start 512)) ⌝ }
+{
+    let mut counts = Counts::none();
+    let mut at = start;
+    let mut k: usize = 0;
+    while k < 512 {
+        if next.len() <= at as usize {
+            return counts;
+        }
+        let cell = exercise::known_record_at(exercise, CellNumber(at));
+        counts = counts.with(cell);
+        mark_if(marking, marks, cell);
+        at = entry(next, at as usize);
+        k += 1;
+    }
+    counts
+}
+
+// The result of the LAB whose list begins with a cell. Five cells read 35 nets at the most and keep 64, so only a longer list needs the marks;
+// whatever they hold, they are room to work in.
+fn result_from(
+    table: EntryTable,
+    exercise: &[u8],
+    next: &[u16],
+    start: u16,
+    marks: &mut [u8; 1024],
+) -> LabResult
+    ensures { λ r. ⌜ r ≡ resultOf table (knownAt (now (exercise .entry))) (walk (now (next .entry)) start 512) ⌝ }
+{
+    if is_short(next, start) {
+        let counts = count_cells(exercise, next, start, false, marks);
+        return lab_rules::lab_result(table, counts, 0);
+    }
+    *marks = [0u8; 1024];
+    let counts = count_cells(exercise, next, start, true, marks);
+    lab_rules::lab_result(table, counts, distinct::count_read(marks))
+}
+
+// Puts a LAB's eight route bytes into the rows.
+fn put_row(rows: &mut [u8; 8192], lab: u16, bytes: [u8; 8])
+    requires { ⌜ lab < 1024 ⌝ }
+    ensures { λ _. ⌜ now (rows .exit) ≡ putRow (now (rows .entry)) lab bytes ⌝ }
+{
+    let at = 8 * (lab as usize);
+    rows[at] = bytes[0];
+    rows[at + 1] = bytes[1];
+    rows[at + 2] = bytes[2];
+    rows[at + 3] = bytes[3];
+    rows[at + 4] = bytes[4];
+    rows[at + 5] = bytes[5];
+    rows[at + 6] = bytes[6];
+    rows[at + 7] = bytes[7];
+}
+
+// 60 to 65, in an exercise that passes 15: the lowest LAB that breaks one of them, with the number. The route bytes of the occupied LABs below it are
+// put into the rows.
+pub fn route_labs(
+    table: EntryTable,
+    exercise: &[u8],
+    first: &[u16],
+    next: &[u16],
+    rows: &mut [u8; 8192],
+) -> LowestBroken
+    ensures found { λ r. ⌜ r ≡ lowestBroken table (knownAt (now (exercise .entry))) (now (first .entry)) (now (next .entry)) ⌝ }
+    ensures written { λ r. ⌜ now (rows .exit) ≡ putRows (hasCells (now (first .entry)) (now (next .entry))) (λ l. resultAt table (knownAt (now (exercise .entry))) (now (first .entry)) (now (next .entry)) l .bytes) (now (rows .entry)) (r .lab) ⌝ }
+{
+    let mut marks = [0u8; 1024];
+    let mut lab: u16 = 0;
+    while lab < LABS {
+        let start = entry(first, lab as usize);
+        if next.len() <= start as usize {
+            lab += 1;
+            continue;
+        }
+        let result = result_from(table, exercise, next, start, &mut marks);
+        let number = result.number;
+        if number != 0 {
+            return LowestBroken { lab, number };
+        }
+        let bytes = result.bytes;
+        put_row(rows, lab, bytes);
+        lab += 1;
+    }
+    LowestBroken { lab, number: 0 }
+}

@@ -1,0 +1,17 @@
+-- `lab::Counts::none` meets its contract: each of its six counters is empty.
+-- Assumes nothing.
+use borrow.Author.Needs.{needs}
+use Rattle.lab_rules.proofs.Counts.none.Statement.{statement}
+use Rattle.lab_rules.proofs.Counts.none.Tie as tie
+
+pub none-spec : {M : Type 1} → statement M
+none-spec =
+    tie.close
+    (tie.spec
+    (λ c κs. search needs)  -- none-requires
+    (λ c κs. search needs)  -- none-requires-2
+    (λ c κs. search needs)  -- none-requires-3
+    (λ c κs. search needs)  -- none-requires-4
+    (λ c κs. search needs)  -- none-requires-5
+    (λ c κs. search needs)  -- none-requires-6
+    (λ c. cc))  -- returns

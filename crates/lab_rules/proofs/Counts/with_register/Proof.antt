@@ -1,0 +1,21 @@
+-- `lab::Counts::with_register` meets its contract: each counter takes what its own port gives.
+-- Assumes nothing.
+use borrow.Author.Needs.{needs}
+use Rattle.lab_rules.specs.Ports.{counted, inUse, needed}
+use Rattle.lab_rules.specs.passes.Counts.{countsWith}
+use Rattle.lab_rules.proofs.Counts.with_register.Statement.{statement}
+use Rattle.lab_rules.proofs.Counts.with_register.Tie as tie
+
+pub with-register-spec : {M : Type 1} → statement M
+unfolding countsWith counted inUse needed
+with-register-spec =
+    tie.close
+    (tie.spec
+    (λ c κs. search needs)  -- is-connected-requires
+    (λ c κs. search needs)  -- with-counted-requires
+    (λ c κs. search needs)  -- with-pair-requires
+    (λ c κs. search needs)  -- with-counted-requires-2
+    (λ c κs. search needs)  -- with-in-use-requires
+    (λ c κs. search needs)  -- with-in-use-requires-2
+    (λ c κs. search needs)  -- with-net-requires
+    (λ c. cc))  -- returns

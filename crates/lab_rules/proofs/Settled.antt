@@ -1,0 +1,49 @@
+-- The settled examples P1 to P12 hold. The verdicts and ways are computed by the search, which finds the earliest way. Assumes nothing.
+use Prim.Native.Nat.{ℕ}
+use mathlib.Core.Path.{_≡_, refl, sym, _∙_}
+use mathlib.Core.List.{List, [], _∷_, _++_}
+use mathlib.Core.Option.{Option}
+use lib.ListN.{length}
+use Rattle.sheet.specs.Checks.{check, firstNumber}
+use Rattle.exercise.specs.Record.{outputs}
+use Rattle.exercise.specs.declared.Record.{Record}
+use Rattle.route.specs.Table.{houseBoard}
+use Rattle.route.specs.passes.Search.{pick, searchFrom, foundWay}
+use Rattle.route.proofs.AllWays.{found-earliest}
+use Rattle.lab_rules.specs.Ports.{counted, clockPair, inUse, needed, inLab, inputs, netsIn}
+use Rattle.lab_rules.specs.Rules.{tooManyClocks, tooManyPairs, tooManyClears, tooManySynchronous, tooManyNets, needs, isNone, noWay, labRules, labNumber}
+use Rattle.lab_rules.specs.Examples.{Claim, Holds, Settled, route}
+
+-- a claim about a route, from what the search finds
+searched : (cs : List Record) (k n : ℕ) (w : Option (List ℕ)) → length (needs cs) ≡ k
+    → firstNumber (labRules cs ++ check 65 (isNone (foundWay houseBoard (needs cs))) ∷ []) ≡ n → foundWay houseBoard (needs cs) ≡ w → Holds (route cs k n w)
+unfolding labNumber noWay
+searched cs k n w l h q = (l, rw (found-earliest houseBoard (needs cs)) at h, sym (found-earliest houseBoard (needs cs)) ∙ q)
+
+pub settled : Settled
+unfolding Settled houseBoard pick searchFrom foundWay counted clockPair inUse needed inLab inputs outputs netsIn tooManyClocks tooManyPairs tooManyClears tooManySynchronous tooManyNets needs
+settled = (
+  (refl, refl),
+  (
+    (refl, refl),
+    (
+      (refl, refl),
+      (
+        (refl, refl),
+        (
+          (refl, refl),
+          (
+            (refl, refl),
+            (
+              (refl, refl),
+              (
+                (refl, refl),
+                (searched _ _ _ _ refl refl refl, (searched _ _ _ _ refl refl refl, (searched _ _ _ _ refl refl refl, (refl, (searched _ _ _ _ refl refl refl, tt))))),
+              ),
+            ),
+          ),
+        ),
+      ),
+    ),
+  ),
+)

@@ -1,0 +1,19 @@
+-- `lab::mark_cell` meets its contract: each kind of cell has its function, and a malformed record has no ports.
+-- Assumes nothing.
+use borrow.Author.Needs.{needs}
+use Rattle.lab_rules.proofs.Steps.{no-ports}
+use Rattle.lab_rules.proofs.mark_cell.Statement.{statement}
+use Rattle.lab_rules.proofs.mark_cell.Tie as tie
+
+pub mark-cell-spec : {M : Type 1} → statement M
+mark-cell-spec =
+    tie.close
+    (tie.spec
+    (λ c. search needs)  -- enum-known-cell
+    (λ c κs. search needs)  -- mark-combinational-requires
+    (λ c. search needs)  -- enum-known-cell-2
+    (λ c κs. search needs)  -- mark-register-requires
+    (λ c. search needs)  -- enum-told
+    (λ c. cc)  -- returns
+    (λ c. cc)  -- returns-2
+    (λ c. rw (c .enum-told .given .1, no-ports)))  -- returns-3

@@ -1,0 +1,30 @@
+-- `lab::mark_combinational` meets its contract: the marks of a cell are those of its inputs and then of its outputs, one signal after the other.
+-- Assumes nothing.
+use borrow.Author.Needs.{needs}
+use Rattle.lab_rules.specs.Ports.{inputs}
+use Rattle.exercise.specs.Record.{outputs}
+use Rattle.lab_rules.proofs.Steps.{mark-ports}
+use Rattle.lab_rules.proofs.mark_combinational.Statement.{statement}
+use Rattle.lab_rules.proofs.mark_combinational.Tie as tie
+
+returns : tie.Need-returns
+unfolding inputs outputs
+returns c =
+    let o1 = c .before .before in
+    let i4 = o1 .before .before in
+    let i3 = i4 .before .before in
+    let i2 = i3 .before .before in
+    let i1 = i2 .before .before in
+    rw (mark-ports, c .mark-output2 .ensures, o1 .mark-output .ensures, i4 .mark-input4 .ensures, i3 .mark-input3 .ensures, i2 .mark-input2 .ensures, i1 .mark-input .ensures)
+
+pub mark-combinational-spec : {M : Type 1} → statement M
+mark-combinational-spec =
+    tie.close
+    (tie.spec
+    (λ c κs. search needs)  -- mark-input-requires
+    (λ c κs. search needs)  -- mark-input-requires-2
+    (λ c κs. search needs)  -- mark-input-requires-3
+    (λ c κs. search needs)  -- mark-input-requires-4
+    (λ c κs. search needs)  -- mark-output-requires
+    (λ c κs. search needs)  -- mark-output-requires-2
+    returns)

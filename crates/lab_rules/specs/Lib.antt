@@ -1,0 +1,4 @@
+pub mod Ports
+pub mod Rules
+pub mod Examples
+pub mod passes

@@ -1,0 +1,4 @@
+pub mod ListCheck
+pub mod AnyList
+pub mod Agreement
+pub mod passes

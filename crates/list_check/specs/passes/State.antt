@@ -1,0 +1,31 @@
+-- What is kept while the records of a list are taken one by one. Assumes nothing.
+use mathlib.Core.Bool.{true, cond, not, _&&_}
+use mathlib.Core.List.{List, [], _∷_}
+use lib.ListN.{replicate}
+use Rattle.distinct.specs.passes.Marks.{markAll, readMarks}
+use Rattle.route.specs.Table.{Table}
+use Rattle.lab_rules.specs.declared.LabResult.{LabResult}
+use Rattle.lab_rules.specs.passes.Counts.{noCounts, countsWith, usesOf, refused, resultFrom}
+use Rattle.list_check.specs.declared.CellRecord.{CellRecord}
+use Rattle.list_check.specs.declared.ListState.{ListState}
+use Rattle.list_check.specs.ListCheck.{unfit, recordFrom}
+
+unfoldable pub noState : ListState
+noState = record { fit = true; counts = noCounts; marks = replicate 1024 0 }
+
+-- one record more
+unfoldable pub stateWith : ListState → CellRecord → ListState
+stateWith s c = record {
+  fit = s .fit && not (unfit (recordFrom c));
+  counts = countsWith (s .counts) (recordFrom c);
+  marks = markAll (s .marks) (usesOf (recordFrom c));
+}
+
+-- the records of a list, one after the other
+unfoldable pub stateAll : ListState → List CellRecord → ListState
+stateAll s [] = s
+stateAll s (c ∷ cs) = stateAll (stateWith s c) cs
+
+-- 18 where a record was unfit, otherwise what the counts and the marks say
+unfoldable pub finished : Table → ListState → LabResult
+finished t s = cond (s .fit) (resultFrom t (s .counts) (readMarks (s .marks))) (refused 18)

@@ -1,0 +1,98 @@
+-- What tests, filters and tables say of lists that are put together, and of the numbers below n, one number more at a time. Assumes nothing.
+use Prim.Native.Nat.{ℕ, zero, suc, _+_, _≤_, _<_}
+use mathlib.Core.Path.{_≡_, refl, sym, ap, _∙_}
+use mathlib.Core.Bool.{Bool, true, false, _&&_, _||_, or-assoc, or-false, or-true, true≢false}
+use mathlib.Core.List.{List, [], _∷_, _++_, append-assoc, append-nil}
+use native.Mathlib.Nat.{zero-add}
+use native.Mathlib.Omega.{arith}
+use lib.ListN.{length, getD, replicate}
+use lib.Dec.{eqb}
+use borrow.Author.Tests.{eqb-true, eqb-false, eq-eqb, ne-eqb}
+use Rattle.sheet.specs.Lists.{concatMap, filterb, anyb, from, below, elemb}
+use Rattle.sheet.proofs.Laws.{by-test, or-parts}
+
+-- ---- tests
+-- of three tests, the one in the middle
+pub or-middle : (a b c : Bool) → a || b || c ≡ false → b ≡ false
+or-middle a b c h = or-parts a b (or-parts (a || b) c h .0) .1
+
+pub eqb-comm : (a b : ℕ) → eqb a b ≡ eqb b a
+eqb-comm a b =
+    by-test (eqb a b) (λ e. rw (e, eq-eqb b a (sym (eqb-true a b e)))) (λ e. rw (e, ne-eqb b a (λ q. eqb-false a b e (sym q))))
+
+-- ---- lists
+module _ {A : Type 0} (p : A → Bool) where
+  pub any-append : (xs ys : List A) → anyb p (xs ++ ys) ≡ anyb p xs || anyb p ys
+  any-append [] ys = refl
+  any-append (x ∷ xs) ys = rw (any-append xs ys) (sym (or-assoc (p x) (anyb p xs) (anyb p ys)))
+
+  pub filter-append : (xs ys : List A) → filterb p (xs ++ ys) ≡ filterb p xs ++ filterb p ys
+  filter-append [] ys = refl
+  filter-append (x ∷ xs) ys = let h = filter-append xs ys in by-test (p x) (λ e. rw (e, h)) (λ e. rw (e, h))
+
+  pub filter-length : (l : List A) → length (filterb p l) ≤ length l
+  filter-length [] = omega arith
+  filter-length (x ∷ xs) = let h = filter-length xs in by-test (p x) (λ e. rw e (omega arith)) (λ e. rw e (omega arith))
+
+  pub any-same : (q : A → Bool) → ((x : A) → p x ≡ q x) → (xs : List A) → anyb p xs ≡ anyb q xs
+  any-same q h [] = refl
+  any-same q h (x ∷ xs) = rw (h x, any-same q h xs)
+
+  pub any-none : (q : A → Bool) → ((x : A) → p x ≡ false → q x ≡ false) → (xs : List A) → anyb p xs ≡ false → anyb q xs ≡ false
+  any-none q h [] f = refl
+  any-none q h (x ∷ xs) f = let g = or-parts (p x) (anyb p xs) f in rw (h x (g .0)) (any-none q h xs (g .1))
+
+pub any-and : {A : Type 0} (u : Bool) (p : A → Bool) (xs : List A) → anyb (λ x. u && p x) xs ≡ u && anyb p xs
+any-and true p xs = refl
+any-and false p [] = refl
+any-and false p (x ∷ xs) = any-and false p xs
+
+pub elem-first : (x : ℕ) (l : List ℕ) → elemb x (x ∷ l) ≡ true
+elem-first x l = rw (eq-eqb x x refl)
+
+pub elem-rest : (x y : ℕ) (l : List ℕ) → elemb x l ≡ true → elemb x (y ∷ l) ≡ true
+elem-rest x y l m = rw (m, or-true (eqb x y))
+
+pub filter-in : (p : ℕ → Bool) (x : ℕ) (l : List ℕ) → elemb x l ≡ true → p x ≡ true → elemb x (filterb p l) ≡ true
+filter-in p x [] m h = m
+filter-in p x (y ∷ l) m h =
+    by-test (eqb x y) (λ e. rw (← eqb-true x y e, h) (elem-first x (filterb p l)))
+    (λ e. let g = filter-in p x l (rw e at m) h in by-test (p y) (λ t. rw (t, e) g) (λ t. rw t g))
+
+-- a list with an element that passes is not empty once filtered
+pub filter-some : (p : ℕ → Bool) (x : ℕ) (l : List ℕ) → elemb x l ≡ true → p x ≡ true → 1 ≤ length (filterb p l)
+filter-some p x l m h = go (filterb p l) (filter-in p x l m h)
+  where
+    go : (l : List ℕ) → elemb x l ≡ true → 1 ≤ length l
+    go [] m = absurd (true≢false (sym m))
+    go (y ∷ l) m = omega arith
+
+-- within a list the value past its end does not matter
+pub getD-within : {A : Type 0} (l : List A) (n : ℕ) (d f : A) → n < length l → getD l n d ≡ getD l n f
+getD-within [] n d f h = absurd (omega arith)
+getD-within (x ∷ l) zero d f h = refl
+getD-within (x ∷ l) (suc n) d f h = getD-within l n d f (omega arith)
+
+-- a list of the same number throughout reads as it everywhere
+pub getD-all : {A : Type 0} (n k : ℕ) (a : A) → getD (replicate n a) k a ≡ a
+getD-all zero k a = refl
+getD-all (suc n) zero a = refl
+getD-all (suc n) (suc k) a = getD-all n k a
+
+pub concat-append : {A B : Type 0} (f : A → List B) (xs ys : List A) → concatMap f (xs ++ ys) ≡ concatMap f xs ++ concatMap f ys
+concat-append f [] ys = refl
+concat-append f (x ∷ xs) ys = rw (concat-append f xs ys) (sym (append-assoc (f x) (concatMap f xs) (concatMap f ys)))
+
+-- ---- one number more
+from-suc : (i k : ℕ) → from i (suc k) ≡ from i k ++ ((i + k) ∷ [])
+from-suc i zero = ap (λ (j : ℕ). j ∷ []) (omega arith)
+from-suc i (suc k) = ap (λ (l : List ℕ). i ∷ l) (from-suc (suc i) k ∙ ap (λ (j : ℕ). from (suc i) k ++ (j ∷ [])) (omega arith))
+
+pub below-suc : (n : ℕ) → below (suc n) ≡ below n ++ (n ∷ [])
+below-suc n = from-suc 0 n ∙ rw (zero-add n)
+
+pub any-suc : (p : ℕ → Bool) (n : ℕ) → anyb p (below (suc n)) ≡ anyb p (below n) || p n
+any-suc p n = ap (anyb p) (below-suc n) ∙ any-append p (below n) (n ∷ []) ∙ rw (or-false (p n))
+
+pub concat-suc : {B : Type 0} (f : ℕ → List B) (n : ℕ) → concatMap f (below (suc n)) ≡ concatMap f (below n) ++ f n
+concat-suc f n = ap (concatMap f) (below-suc n) ∙ concat-append f (below n) (n ∷ []) ∙ rw (append-nil (f n))
