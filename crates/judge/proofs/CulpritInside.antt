@@ -22,7 +22,8 @@ use Rattle.route.specs.Way.{isWay, entryLists, ways, earliestWay}
 use Rattle.lab_rules.specs.Ports.{inLab, netsIn}
 use Rattle.lab_rules.specs.Rules.{tooManyClocks, tooManyPairs, tooManyClears, tooManySynchronous, tooManyNets, noWay, labChecks}
 use Rattle.lab_rules.specs.Rules as rules
-use Rattle.netlist.specs.Cells.{cell, malformed, doubleDriver, checksOf, cellChecks}
+use Rattle.tables.specs.Records.{cell, malformed, doubleDriver}
+use Rattle.netlist.specs.Cells.{checksOf, cellChecks}
 use Rattle.placing.specs.Places.{labAt, outOfRangeAt, placeTaken}
 use Rattle.lab_pass.specs.Members.{members}
 use Rattle.sheet.specs.Checks.{NONE}

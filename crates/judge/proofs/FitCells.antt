@@ -19,13 +19,14 @@ use Rattle.exercise.specs.declared.Record.the-variants.{Combinational, Register
 use Rattle.sheet.proofs.Laws.{by-test}
 use Rattle.lab_rules.specs.Ports.{clk, ena, inputs}
 use Rattle.lab_rules.specs.passes.Counts.{Fit, AllFit}
-use Rattle.netlist.specs.Cells.{cell, allInputs, registerChecks, cellChecks}
+use Rattle.tables.specs.Records.{cell, allInputs}
+use Rattle.netlist.specs.Cells.{registerChecks, cellChecks}
 use Rattle.placing.specs.Places.{labAt}
 use Rattle.lab_pass.specs.Members.{members}
 use Rattle.judge.specs.Judge.{labCells}
 use Rattle.judge.proofs.Broken.{held-number}
 use Rattle.judge.proofs.Numbers.{elem-more}
-use Rattle.netlist.proofs.Decoded.{inputs-good, outputs-good, good-net, good-output}
+use Rattle.tables.proofs.Decoded.{inputs-good, outputs-good, good-net, good-output}
 
 -- ---- signals
 module _ (nets s : ℕ) (few : nets ≤ 1024) where

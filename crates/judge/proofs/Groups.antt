@@ -11,7 +11,8 @@ use Rattle.sheet.specs.Lists.{Every, firstFrom}
 use Rattle.exercise.specs.Exercise.{cellCount, exerciseChecks, exerciseNumber}
 use Rattle.answer.specs.Answer.{answerChecks, answerNumber, placeCount, wrongAnswerLength}
 use Rattle.sheet.proofs.Laws.{by-test}
-use Rattle.netlist.specs.Cells.{cellNumbers, malformed, doubleDriver, cellChecks, cellNumber}
+use Rattle.tables.specs.Records.{cellNumbers, malformed, doubleDriver}
+use Rattle.netlist.specs.Cells.{cellChecks, cellNumber}
 use Rattle.placing.specs.Places.{outOfRangeAt, placeTaken}
 use Rattle.sheet.specs.Checks.{NONE}
 use Rattle.judge.specs.declared.Finding.{Finding}

@@ -13,7 +13,8 @@ use Rattle.exercise.specs.Exercise.{netCount, cellCount, recordStart, overLimit
 use Rattle.answer.specs.Answer.{placeCount, placeStart, wrongAnswerLength}
 use Rattle.exercise.specs.Record.{isMalformed}
 use Rattle.sheet.proofs.Laws.{or-parts}
-use Rattle.netlist.specs.Cells.{cell, malformed, cellChecks}
+use Rattle.tables.specs.Records.{cell, malformed}
+use Rattle.netlist.specs.Cells.{cellChecks}
 use Rattle.placing.specs.Places.{outOfRangeAt, placeTaken}
 use Rattle.judge.specs.Judge.{ofCell, exerciseGroup, answerGroup, cellGroup, placeGroup, checksTo51}
 use Rattle.judge.specs.Demands.{AllHold}

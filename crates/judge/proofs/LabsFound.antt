@@ -16,7 +16,7 @@ use Rattle.route.specs.Table.{Table}
 use Rattle.lab_rules.specs.Rules.{labChecks, labNumber, routeOf, labResult}
 use Rattle.lab_rules.specs.passes.Counts.{AllFit}
 use Rattle.lab_rules.specs.declared.LabResult.{LabResult}
-use Rattle.netlist.specs.Cells.{cell}
+use Rattle.tables.specs.Records.{cell}
 use Rattle.placing.specs.Places.{labAt}
 use Rattle.lab_pass.specs.passes.Links.{Links, linkBelow}
 use Rattle.lab_pass.specs.Members.{members}

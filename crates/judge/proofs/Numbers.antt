@@ -14,7 +14,8 @@ use Rattle.exercise.specs.declared.Record.{Record}
 use Rattle.exercise.specs.declared.Record.the-variants.{Combinational, Register, Malformed}
 use Rattle.route.specs.Table.{Table}
 use Rattle.lab_rules.specs.Rules.{labRules, labChecks}
-use Rattle.netlist.specs.Cells.{cell, cellNumbers, checksOf, cellChecks}
+use Rattle.tables.specs.Records.{cell, cellNumbers}
+use Rattle.netlist.specs.Cells.{checksOf, cellChecks}
 use Rattle.judge.specs.Judge.{Check, cellCheck, perCell, ofSheet, ofCell, ofLab, labCells, roomChecks, exerciseGroup, answerGroup, cellGroup, placeGroup, labGroup, checksTo51, checks, firstBroken}
 use Rattle.judge.specs.Numbers.{numbersTo51, labNumbers, refusalNumbers}
 use Rattle.judge.specs.Demands.{AllHold}

@@ -12,7 +12,8 @@ use Rattle.exercise.specs.declared.CombinationalCell.{CombinationalCell}
 use Rattle.exercise.specs.declared.Record.the-variants.{Combinational}
 use Rattle.sheet.proofs.Laws.{by-test}
 use Rattle.route.specs.Table.{Table}
-use Rattle.netlist.specs.Cells.{cell, cellNumbers, feeds}
+use Rattle.tables.specs.Records.{cell, cellNumbers}
+use Rattle.netlist.specs.Cells.{feeds}
 use Rattle.placing.specs.Places.{follows, placeTaken}
 use Rattle.placing.proofs.Places.{no-ring}
 use Rattle.sheet.specs.Checks.{NONE}

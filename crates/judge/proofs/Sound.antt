@@ -13,13 +13,16 @@ use Rattle.exercise.specs.Exercise.{netCount, cellCount, overLimit, exerciseChe
 use Rattle.exercise.specs.declared.Record.{Record}
 use Rattle.exercise.specs.declared.Record.the-variants.{Combinational, Register, Malformed}
 use Rattle.sheet.proofs.Laws.{by-test, or-parts}
-use Rattle.netlist.specs.Cells.{cell, malformed, doubleDriver, cellNumber}
+use Rattle.tables.specs.Records.{cell, malformed, doubleDriver}
+use Rattle.netlist.specs.Cells.{cellNumber}
 use Rattle.exercise.specs.passes.Known.{knownAt}
 use Rattle.exercise.proofs.Known.{known-is}
 use Rattle.sheet.specs.Checks.{NONE}
-use Rattle.netlist.specs.passes.Tables.{cellFor, numberAt, readsBelow, readersBelow, driversBelow}
-use Rattle.netlist.proofs.Same.{reads-same, readers-same, drivers-same}
-use Rattle.netlist.proofs.Carry.{fed-by, number-is, reads, readers, drivers}
+use Rattle.tables.specs.passes.Tables.{cellFor, readsBelow, readersBelow, driversBelow}
+use Rattle.netlist.specs.passes.Numbers.{numberAt}
+use Rattle.tables.proofs.Same.{reads-same, readers-same, drivers-same}
+use Rattle.tables.proofs.Filled.{reads, readers, drivers}
+use Rattle.netlist.proofs.Carry.{fed-by, number-is}
 use Rattle.placing.specs.Places.{follows, detachedBy, detachedAt}
 use Rattle.judge.specs.declared.Finding.{Finding}
 use Rattle.judge.specs.Judge.{finding, legal, ofSheet, standsApart, carryNotNext, exerciseGroup, cellGroup, placeGroup, firstBroken}

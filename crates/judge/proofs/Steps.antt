@@ -17,10 +17,12 @@ use Rattle.route.specs.Table.{Table, houseBoard}
 use Rattle.lab_rules.specs.Rules.{routeOf}
 use Rattle.sheet.proofs.Laws.{by-test}
 use Rattle.lab_rules.specs.passes.Counts.{AllFit}
-use Rattle.netlist.specs.Cells.{cell, malformed, doubleDriver, cellNumber}
+use Rattle.tables.specs.Records.{cell, malformed, doubleDriver}
+use Rattle.netlist.specs.Cells.{cellNumber}
 use Rattle.sheet.specs.Checks.{NONE}
-use Rattle.netlist.specs.passes.Tables.{malformedAt, doubleFrom, readsBelow, readersBelow, driversBelow, numberBy, numberAt, brokenAt}
-use Rattle.netlist.proofs.Double.{double-is}
+use Rattle.tables.specs.passes.Tables.{malformedAt, doubleFrom, readsBelow, readersBelow, driversBelow}
+use Rattle.netlist.specs.passes.Numbers.{numberBy, numberAt, brokenAt}
+use Rattle.tables.proofs.Double.{double-is}
 use Rattle.placing.specs.Places.{labAt, outOfRangeAt, placeTaken, detachedAt}
 use Rattle.lab_pass.specs.Members.{members}
 use Rattle.lab_pass.specs.passes.Results.{resultAt, brokenLab, lowestBroken, hasCells, putRows}
@@ -45,7 +47,7 @@ use Rattle.judge.proofs.CulpritInside.{culprit-inside}
 use Rattle.judge.proofs.FitCells.{lab-fit}
 use Rattle.judge.proofs.LabsFound.{linked, labs-are, routes-are}
 use Rattle.sheet.proofs.First.{first-most, some-below}
-use Rattle.netlist.proofs.Same.{double-same}
+use Rattle.tables.proofs.Same.{double-same}
 use Rattle.judge.proofs.Numbering.{numbered-none}
 use Rattle.judge.proofs.Sound.{Sound, known-cells, sound-of, limits, then-first, then-second, cells-are, places-are}
 

@@ -14,7 +14,8 @@ use Rattle.exercise.specs.declared.Record.{Record}
 use Rattle.exercise.specs.declared.Record.the-variants.{Combinational, Register, Malformed}
 use Rattle.route.specs.Table.{Table}
 use Rattle.lab_rules.specs.Rules.{labChecks, routeOf}
-use Rattle.netlist.specs.Cells.{cell, cellNumbers, malformed, doubleDriver, feeds, cellChecks}
+use Rattle.tables.specs.Records.{cell, cellNumbers, malformed, doubleDriver}
+use Rattle.netlist.specs.Cells.{feeds, cellChecks}
 use Rattle.sheet.specs.Checks.{NONE}
 use Rattle.placing.specs.Places.{labAt, outOfRangeAt, placeTaken, follows}
 use Rattle.lab_pass.specs.Members.{members}

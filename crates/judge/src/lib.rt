@@ -19,7 +19,7 @@ ghost use Rattle.judge.specs.Numbers.{faultOf};
 ghost use Rattle.judge.specs.passes.Stages.{numbered, placedBy};
 ghost use Rattle.judge.specs.Judge.{numbersOf};
 ghost use Rattle.sheet.specs.Checks.{NONE};
-ghost use Rattle.netlist.specs.passes.Tables.{numberAt};
+ghost use Rattle.netlist.specs.passes.Numbers.{numberAt};
 
 // The route buffer's length: eight bytes for each of 1,024 LABs.
 pub const ROUTE_SIZE: usize = 8192;
@@ -110,13 +110,13 @@ fn exercise_finding(exercise: &[u8]) -> Finding
     }
     let nets = exercise::net_count(exercise);
     let cells = exercise::cell_count(exercise);
-    let malformed = netlist::first_malformed(exercise, nets, cells);
+    let malformed = tables::first_malformed(exercise, nets, cells);
     if malformed < cells {
         return at_cell(15, CellNumber(malformed), cells);
     }
     at_cell(
         16,
-        CellNumber(netlist::first_double_driver(exercise, cells)),
+        CellNumber(tables::first_double_driver(exercise, cells)),
         cells,
     )
 }
@@ -189,7 +189,7 @@ fn cells_finding(exercise: &[u8], answer: &[u8]) -> Finding
     let mut reads = [0u8; 1024];
     let mut readers = [NONE; 1024];
     let mut drivers = [NONE; 1024];
-    netlist::fill_tables(exercise, cells, &mut reads, &mut readers, &mut drivers);
+    tables::fill_tables(exercise, cells, &mut reads, &mut readers, &mut drivers);
     let f = cell_finding(exercise, cells, &reads, &readers, &drivers);
     if f.number != 0 {
         return f;

@@ -15,7 +15,7 @@ use Rattle.sheet.proofs.Scan.{any-below}
 use Rattle.distinct.specs.Rising.{rising, distinct}
 use Rattle.distinct.proofs.Rising.{In, Above, rising-above, in-rising, rising-in, same, distinct-length, in-map, distinct-image, filter-above, in-filter}
 use Rattle.distinct.proofs.Nets.{from-above, in-from, from-in}
-use Rattle.netlist.specs.Cells.{cell}
+use Rattle.tables.specs.Records.{cell}
 use Rattle.placing.specs.Places.{kindAt, xAt, yAt, leAt, labAt, samePlace, placeTaken}
 use Rattle.placing.proofs.Places.{in-range, kind-of-record}
 use Rattle.lab_pass.specs.Members.{members}

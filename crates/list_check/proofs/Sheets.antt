@@ -20,8 +20,9 @@ use Rattle.exercise.specs.declared.Record.{Record}
 use Rattle.exercise.specs.declared.Record.the-variants.{Combinational, Register, Malformed}
 use Rattle.sheet.proofs.Laws.{by-test, or-parts}
 use Rattle.distinct.proofs.Rising.{In}
-use Rattle.netlist.specs.Cells.{cell, checksOf, cellChecks}
-use Rattle.netlist.proofs.Decoded.{good-net}
+use Rattle.tables.specs.Records.{cell}
+use Rattle.netlist.specs.Cells.{checksOf, cellChecks}
+use Rattle.tables.proofs.Decoded.{good-net}
 use Rattle.route.specs.Table.{Table}
 use Rattle.lab_rules.specs.Rules.{labResult}
 use Rattle.list_check.specs.declared.CellRecord.{CellRecord}

@@ -24,7 +24,7 @@ use Rattle.lab_rules.specs.passes.Counts.{noCounts, countsAll, markCells, refus
 use Rattle.lab_rules.proofs.Folded.{counts-are, marks-cons, nets-are}
 use Rattle.lab_rules.proofs.Result.{result-is}
 use Rattle.netlist.specs.Cells.{registerChecks}
-use Rattle.netlist.proofs.Decoded.{inputs-good, outputs-good}
+use Rattle.tables.proofs.Decoded.{inputs-good, outputs-good}
 use Rattle.judge.proofs.FitCells.{small-input, small-output, input-of-all, enable-clocked}
 use Rattle.list_check.specs.declared.CellRecord.{CellRecord}
 use Rattle.list_check.specs.declared.ListState.{ListState}

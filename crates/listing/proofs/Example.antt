@@ -8,7 +8,8 @@ use Rattle.judge.specs.Judge.{placeGroup, labGroup, checksTo51, checks, apprent
 use Rattle.lab_rules.specs.Ports.{counted, clockPair, inUse, needed, inLab, inputs, netsIn}
 use Rattle.lab_rules.specs.Rules.{tooManyClocks, tooManyPairs, tooManyClears, tooManySynchronous, tooManyNets, needs, noWay, routeOf}
 use Rattle.lab_pass.specs.Members.{members}
-use Rattle.netlist.specs.Cells.{cell, malformed, driven, doubleDriver, feeds, carryInNotFed, carryOutNotReadOnce, cellChecks}
+use Rattle.tables.specs.Records.{cell, malformed, driven, doubleDriver}
+use Rattle.netlist.specs.Cells.{feeds, carryInNotFed, carryOutNotReadOnce, cellChecks}
 use Rattle.placing.specs.Places.{labAt, outOfRangeAt, samePlace, placeTaken}
 use Rattle.route.specs.Way.{isWay, entryLists, ways, earliestWay}
 use Rattle.route.specs.Route.{eightBytes, labRouteOf}

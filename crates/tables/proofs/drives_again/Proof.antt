@@ -1,0 +1,28 @@
+-- Each arm of the match is a case of `outputs`: its nets are asked and marked in the order of the list.
+use mathlib.Core.Bool.{or-false}
+use borrow.Author.Needs.{needs}
+use Rattle.exercise.specs.Record.{outputs}
+use Rattle.sheet.proofs.Laws.{tested}
+use Rattle.tables.specs.passes.Tables.{markedTwice, markEach}
+use Rattle.tables.proofs.drives_again.Statement.{statement}
+use Rattle.tables.proofs.drives_again.Tie as tie
+
+pub drives-again-spec : {M : Type 1} → statement M
+unfolding markedTwice markEach outputs
+drives-again-spec =
+    tie.close
+    (tie.spec
+    (λ c. search needs)  -- enum-known-cell
+    (λ c κs. search needs)  -- is-marked-requires
+    (λ c κs. search needs)  -- mark-requires
+    (λ c κs. search needs)  -- is-marked-requires-2
+    (λ c κs. search needs)  -- mark-requires-2
+    (λ c. search needs)  -- same-length
+    (λ c. rw (c .before .before .before .before .before .before .before .before .before .before .before .before .before .cell .given .1, or-false) (cc, cc))  -- returns
+    (λ c. search needs)  -- enum-known-cell-2
+    (λ c κs. search needs)  -- is-marked-requires-3
+    (λ c κs. search needs)  -- mark-requires-3
+    (λ c. search needs)  -- same-length-2
+    (λ c. rw (c .before .before .before .before .before .before .before .cell2 .given .1, or-false) (cc, cc))  -- returns-2
+    (λ c. search needs)  -- enum-told
+    (λ c. search tested depth 20))  -- returns-3
