@@ -5,6 +5,7 @@ use sheet::CellNumber;
 use sheet::Signal;
 ghost use mathlib.Core.Path.{_≡_};
 ghost use mathlib.Core.Bool.{cond};
+ghost use mathlib.Core.List.{[], _∷_};
 ghost use lib.Dec.{eqb};
 ghost use lib.ListN.{getD, set, replicate};
 ghost use Rattle.sheet.specs.Lists.{firstFrom};
@@ -33,23 +34,20 @@ pub fn first_malformed(exercise: &[u8], nets: u16, cells: u16) -> u16
     i
 }
 
-// Whether a net is marked as driven.
-fn is_marked(marks: &[u8], signal: Signal) -> bool
-    ensures { λ r. ⌜ r ≡ isMarked (now (marks .entry)) (signal .0) ⌝ }
-{
-    let marked = sheet::byte_at(marks, signal.net() as usize) != 0;
-    signal.is_net() & marked
-}
-
-fn mark(marks: &mut [u8], signal: Signal)
-    ensures { λ _. ⌜ now (marks .exit) ≡ withMark (now (marks .entry)) (signal .0) ⌝ }
+// Marks a net as driven. Whether it was marked already.
+fn mark(marks: &mut [u8], signal: Signal) -> bool
+    ensures again { λ r. ⌜ r ≡ isMarked (now (marks .entry)) (signal .0) ⌝ }
+    ensures marked { λ _. ⌜ now (marks .exit) ≡ withMark (now (marks .entry)) (signal .0) ⌝ }
 {
     if signal.is_net() {
         let net = signal.net() as usize;
         if net < marks.len() {
+            let again = marks[net] != 0;
             marks[net] = 1;
+            return again;
         }
     }
+    false
 }
 
 // Whether a cell drives a net that is marked already, or one twice. Its nets are marked.
@@ -59,17 +57,11 @@ fn drives_again(marks: &mut [u8], cell: Record) -> bool
 {
     match cell {
         Record::Combinational(c) => {
-            let first = is_marked(marks, c.combout);
-            mark(marks, c.combout);
-            let second = is_marked(marks, c.cout);
-            mark(marks, c.cout);
+            let first = mark(marks, c.combout);
+            let second = mark(marks, c.cout);
             return first | second;
         }
-        Record::Register(c) => {
-            let first = is_marked(marks, c.regout);
-            mark(marks, c.regout);
-            return first;
-        }
+        Record::Register(c) => return mark(marks, c.regout),
         Record::Malformed => return false,
     }
 }
@@ -119,23 +111,26 @@ fn note_reads(reads: &mut [u8], cell: Record)
     }
 }
 
+fn note_four(reads: &mut [u8], a: Signal, b: Signal, c: Signal, d: Signal)
+    ensures { λ _. ⌜ now (reads .exit) ≡ readEach (now (reads .entry)) (a .0 ∷ b .0 ∷ c .0 ∷ d .0 ∷ []) ⌝ }
+{
+    note_read(reads, a);
+    note_read(reads, b);
+    note_read(reads, c);
+    note_read(reads, d);
+}
+
 fn note_combinational(reads: &mut [u8], cell: CombinationalCell)
     ensures { λ _. ⌜ now (reads .exit) ≡ readEach (now (reads .entry)) (allInputs (Combinational cell)) ⌝ }
 {
-    note_read(reads, cell.dataa);
-    note_read(reads, cell.datab);
-    note_read(reads, cell.datac);
-    note_read(reads, cell.datad);
+    note_four(reads, cell.dataa, cell.datab, cell.datac, cell.datad);
     note_read(reads, cell.cin);
 }
 
 fn note_register(reads: &mut [u8], cell: RegisterCell)
     ensures { λ _. ⌜ now (reads .exit) ≡ readEach (now (reads .entry)) (allInputs (Register cell)) ⌝ }
 {
-    note_read(reads, cell.datain);
-    note_read(reads, cell.clk);
-    note_read(reads, cell.ena);
-    note_read(reads, cell.aclr);
+    note_four(reads, cell.datain, cell.clk, cell.ena, cell.aclr);
     note_read(reads, cell.sclr);
     note_read(reads, cell.sload);
     note_read(reads, cell.sdata);
@@ -153,23 +148,15 @@ fn note_cell(table: &mut [u16], signal: Signal, i: CellNumber)
     }
 }
 
-// Notes a cell at the net that its cin reads.
-fn note_reader(readers: &mut [u16], i: CellNumber, cell: Record)
-    ensures { λ _. ⌜ now (readers .exit) ≡ withReader (now (readers .entry)) (i .0) cell ⌝ }
+// Notes a cell at the net that its cin reads, and at the net that its cout drives.
+fn note_carry(readers: &mut [u16], drivers: &mut [u16], i: CellNumber, cell: Record)
+    ensures read { λ _. ⌜ now (readers .exit) ≡ withReader (now (readers .entry)) (i .0) cell ⌝ }
+    ensures driven { λ _. ⌜ now (drivers .exit) ≡ withDriver (now (drivers .entry)) (i .0) cell ⌝ }
 {
     let Record::Combinational(c) = cell else {
         return;
     };
     note_cell(readers, c.cin, i);
-}
-
-// Notes a cell at the net that its cout drives.
-fn note_driver(drivers: &mut [u16], i: CellNumber, cell: Record)
-    ensures { λ _. ⌜ now (drivers .exit) ≡ withDriver (now (drivers .entry)) (i .0) cell ⌝ }
-{
-    let Record::Combinational(c) = cell else {
-        return;
-    };
     note_cell(drivers, c.cout, i);
 }
 
@@ -189,8 +176,7 @@ pub fn fill_tables(
     while i < cells {
         let cell = exercise::known_record_at(exercise, CellNumber(i));
         note_reads(reads, cell);
-        note_reader(readers, CellNumber(i), cell);
-        note_driver(drivers, CellNumber(i), cell);
+        note_carry(readers, drivers, CellNumber(i), cell);
         i += 1;
     }
 }

@@ -13,16 +13,16 @@ drives-again-spec =
     tie.close
     (tie.spec
     (λ c. search needs)  -- enum-known-cell
-    (λ c κs. search needs)  -- is-marked-requires
     (λ c κs. search needs)  -- mark-requires
-    (λ c κs. search needs)  -- is-marked-requires-2
     (λ c κs. search needs)  -- mark-requires-2
     (λ c. search needs)  -- same-length
-    (λ c. rw (c .before .before .before .before .before .before .before .before .before .before .before .before .before .cell .given .1, or-false) (cc, cc))  -- returns
+    (λ c.
+    let d = c .before .before in
+    let f = d .before .before .before .before in
+    rw (f .before .before .before .cell .given .1, or-false, ← f .mark .ensures .0, ← f .mark .ensures .1) (rw (d .mark2 .ensures .0), d .mark2 .ensures .1))  -- returns
     (λ c. search needs)  -- enum-known-cell-2
-    (λ c κs. search needs)  -- is-marked-requires-3
     (λ c κs. search needs)  -- mark-requires-3
     (λ c. search needs)  -- same-length-2
-    (λ c. rw (c .before .before .before .before .before .before .before .cell2 .given .1, or-false) (cc, cc))  -- returns-2
+    (λ c. let d = c .before .before in rw (d .before .before .before .cell2 .given .1, or-false) (d .mark3 .ensures))  -- returns-2
     (λ c. search needs)  -- enum-told
     (λ c. search tested depth 20))  -- returns-3

@@ -32,20 +32,18 @@ fill-tables-spec =
     (λ c. (search needs, refl, refl, refl, refl, refl, refl))  -- loop-holds
     (λ c κs. search needs)  -- known-record-at-requires
     (λ c κs. search needs)  -- note-reads-requires
-    (λ c κs. search needs)  -- note-reader-requires
-    (λ c κs. search needs)  -- note-driver-requires
+    (λ c κs. search needs)  -- note-carry-requires
     (λ c. search needs)  -- add-i
     (λ c. search needs)  -- loop-less
     (λ c.
-    let d = c .before .before in
-    let e = d .before .before .before .before in
-    let f = e .before .before .before .before in
+    let d = c .before .before .before .before in
+    let f = d .before .before .before .before .before in
     let r = f .before .before in
     let l = r .before .before .loop in (
       search needs,
       rw (add-one, ← l .inv .1, ← r .known-record-at .ensures) (f .note-reads .ensures),
-      rw (add-one, ← l .inv .2, ← r .known-record-at .ensures) (e .note-reader .ensures),
-      rw (add-one, ← l .inv .3, ← r .known-record-at .ensures) (d .note-driver .ensures),
+      rw (add-one, ← l .inv .2, ← r .known-record-at .ensures) (d .note-carry .ensures .0),
+      rw (add-one, ← l .inv .3, ← r .known-record-at .ensures) (d .note-carry .ensures .1),
       search needs,
       search needs,
       search needs,
@@ -53,4 +51,5 @@ fill-tables-spec =
     (λ c. search needs)  -- same-length
     (λ c. search needs)  -- same-length-2
     (λ c. search needs)  -- same-length-3
-    (λ c. let e : c .before .loop .i ≡ c .before .before .before .before .before .before .args .cells = omega arith in (cc, (cc, cc))))  -- returns
+    (λ c. let e : c .before .loop .i ≡ c .before .before .before .before .before .before .args .cells = omega arith in
+    let v = c .before .loop .inv in (rw (← e) (v .1), (rw (← e) (v .2), rw (← e) (v .3)))))  -- returns

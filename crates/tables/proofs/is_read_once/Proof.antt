@@ -10,4 +10,4 @@ is-read-once-spec =
     (λ c κs. search needs)  -- net-requires
     (λ c. search needs)  -- cast-byte-at
     (λ c κs. search needs)  -- byte-at-requires
-    (λ c. cc))  -- returns
+    (λ c. rw (c .byte-at .ensures, c .before .net .ensures)))  -- returns

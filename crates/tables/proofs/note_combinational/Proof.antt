@@ -1,4 +1,5 @@
 -- The five reads are those of `allInputs`, in its order.
+use mathlib.Core.Path.{refl}
 use borrow.Author.Needs.{needs}
 use Rattle.tables.specs.passes.Tables.{readEach}
 use Rattle.tables.specs.Records.{allInputs}
@@ -10,10 +11,7 @@ unfolding readEach allInputs
 note-combinational-spec =
     tie.close
     (tie.spec
+    (λ c κs. search needs)  -- note-four-requires
     (λ c κs. search needs)  -- note-read-requires
-    (λ c κs. search needs)  -- note-read-requires-2
-    (λ c κs. search needs)  -- note-read-requires-3
-    (λ c κs. search needs)  -- note-read-requires-4
-    (λ c κs. search needs)  -- note-read-requires-5
     (λ c. search needs)  -- same-length
-    (λ c. cc))  -- returns
+    (λ c. let e = c .before .before in rw (e .note-read .ensures, e .before .before .before .before .note-four .ensures) refl))  -- returns
