@@ -136,14 +136,17 @@ module _ (xs ys : List ℕ) (h : (z : ℕ) → In z xs → In z ys) where
   pub rising-same : ((z : ℕ) → In z ys → In z xs) → rising xs ≡ rising ys
   rising-same g = same (rising xs) (rising ys) (rising-above xs) (rising-above ys) (rising-all xs ys h) (rising-all ys xs g)
 
--- ---- one number less, and the numbers made from others
-without-in : (z : ℕ) (xs : List ℕ) (x : ℕ) (ys : List ℕ) → In z (xs ++ ys) → In z (xs ++ x ∷ ys)
-without-in z [] x ys m = inr m
-without-in z (y ∷ xs) x ys (inl e) = inl e
-without-in z (y ∷ xs) x ys (inr m) = inr (without-in z xs x ys m)
+-- ---- lists joined, and the numbers made from others
+pub in-append : (z : ℕ) (xs ys : List ℕ) → In z (xs ++ ys) → In z xs ⊎ In z ys
+in-append z [] ys m = inr m
+in-append z (x ∷ xs) ys (inl e) = inl (inl e)
+in-append z (x ∷ xs) ys (inr m) = ⊎-elim (λ n. inl (inr n)) (λ n. inr n) (in-append z xs ys m)
 
-pub distinct-without : (xs : List ℕ) (x : ℕ) (ys : List ℕ) → distinct (xs ++ ys) ≤ distinct (xs ++ x ∷ ys)
-distinct-without xs x ys = distinct-mono (xs ++ ys) (xs ++ x ∷ ys) (λ z m. without-in z xs x ys m)
+pub append-in : (z : ℕ) (xs ys : List ℕ) → In z xs ⊎ In z ys → In z (xs ++ ys)
+append-in z [] ys m = ⊎-elim (λ n. absurd n) (λ n. n) m
+append-in z (x ∷ xs) ys (inl (inl e)) = inl e
+append-in z (x ∷ xs) ys (inl (inr m)) = inr (append-in z xs ys (inl m))
+append-in z (x ∷ xs) ys (inr m) = inr (append-in z xs ys (inr m))
 
 pub in-map : (f : ℕ → ℕ) (z a : ℕ) (l : List ℕ) → In a l → z ≡ f a → In z (map f l)
 in-map f z a [] m e = m

@@ -19,7 +19,8 @@ use Rattle.exercise.specs.declared.Record.the-variants.{Combinational, Register
 use Rattle.sheet.proofs.Laws.{by-test}
 use Rattle.route.specs.Table.{Table}
 use Rattle.route.specs.Way.{isWay, entryLists, ways, earliestWay}
-use Rattle.lab_rules.specs.Ports.{inLab, netsIn}
+use Rattle.lab_nets.specs.NetsIn.{netsIn}
+use Rattle.lab_rules.specs.Ports.{inLab}
 use Rattle.lab_rules.specs.Rules.{tooManyClocks, tooManyPairs, tooManyClears, tooManySynchronous, tooManyNets, noWay, labChecks}
 use Rattle.lab_rules.specs.Rules as rules
 use Rattle.tables.specs.Records.{cell, malformed, doubleDriver}

@@ -17,7 +17,8 @@ use Rattle.exercise.specs.declared.RegisterCell.{RegisterCell}
 use Rattle.exercise.specs.declared.Record.{Record}
 use Rattle.exercise.specs.declared.Record.the-variants.{Combinational, Register, Malformed}
 use Rattle.sheet.proofs.Laws.{by-test}
-use Rattle.lab_rules.specs.Ports.{clk, ena, inputs}
+use Rattle.lab_nets.specs.NetsIn.{inputs}
+use Rattle.lab_rules.specs.Ports.{clk, ena}
 use Rattle.lab_rules.specs.passes.Counts.{Fit, AllFit}
 use Rattle.tables.specs.Records.{cell, allInputs}
 use Rattle.netlist.specs.Cells.{registerChecks, cellChecks}

@@ -17,7 +17,8 @@ use Rattle.route.specs.declared.Need.{Need}
 use Rattle.route.specs.Table.{Table}
 use Rattle.route.specs.Way.{earliestWay}
 use Rattle.route.specs.Route.{eightBytes, labRouteOf}
-use Rattle.lab_rules.specs.passes.Counts.{noCounts, countsAll, markCells, brokenBy, needsHeld, routedResult, resultFrom}
+use Rattle.lab_nets.specs.passes.Uses.{markCells}
+use Rattle.lab_rules.specs.passes.Counts.{noCounts, countsAll, brokenBy, needsHeld, routedResult, resultFrom}
 use Rattle.lab_rules.specs.declared.Counts.{Counts}
 use Rattle.lab_pass.specs.passes.Results.{resultOf, putRow, putRows}
 use Rattle.lab_pass.proofs.Filling.{rowFrom, row-length, row-at, Written, write-starts, write-goes, write-ends}

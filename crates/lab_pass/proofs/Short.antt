@@ -18,8 +18,9 @@ use Rattle.sheet.proofs.Laws.{by-test}
 use Rattle.sheet.proofs.Lists.{filter-length}
 use Rattle.distinct.specs.passes.Marks.{Use, reads, drives, netsRead, markRead, markDriven, markAll, readMarks}
 use Rattle.route.specs.Table.{Table}
-use Rattle.lab_rules.specs.Ports.{inputs, netsAt}
-use Rattle.lab_rules.specs.passes.Counts.{noCounts, countsAll, usesOf, markCells, brokenBy, resultFrom}
+use Rattle.lab_nets.specs.NetsIn.{inputs, netsAt}
+use Rattle.lab_nets.specs.passes.Uses.{usesOf, markCells}
+use Rattle.lab_rules.specs.passes.Counts.{noCounts, countsAll, brokenBy, resultFrom}
 use Rattle.lab_rules.specs.declared.Counts.{Counts}
 use Rattle.lab_rules.specs.declared.LabResult.{LabResult}
 use Rattle.sheet.specs.Checks.{NONE}

@@ -14,9 +14,10 @@ use Rattle.distinct.specs.passes.UpToTwo.{codesOf}
 use Rattle.route.specs.Table.{Table}
 use Rattle.route.specs.Route.{eightBytes, labRouteOf}
 use Rattle.route.proofs.AllWays.{no-needs}
-use Rattle.lab_rules.specs.passes.Counts.{noCounts, countsWith, countsAll, usesOf, markCells, brokenBy, onlyCode, needsHeld, resultFrom}
+use Rattle.lab_nets.specs.passes.Uses.{usesOf, markCells}
+use Rattle.lab_nets.proofs.Cells.{marks-cons}
+use Rattle.lab_rules.specs.passes.Counts.{noCounts, countsWith, countsAll, brokenBy, onlyCode, needsHeld, resultFrom}
 use Rattle.lab_rules.specs.declared.Counts.{Counts}
-use Rattle.lab_rules.proofs.Folded.{marks-cons}
 use Rattle.sheet.specs.Checks.{NONE}
 use Rattle.lab_pass.specs.passes.Links.{walk}
 use Rattle.lab_pass.specs.passes.Results.{markedIf, resultOf}

@@ -11,7 +11,8 @@ ghost use lib.ListN.{length, getD, set};
 ghost use lib.Dec.{leb};
 ghost use Rattle.exercise.specs.passes.Known.{knownAt};
 ghost use Rattle.distinct.specs.passes.Marks.{markAll};
-ghost use Rattle.lab_rules.specs.passes.Counts.{noCounts, countsAll, usesOf};
+ghost use Rattle.lab_nets.specs.passes.Uses.{usesOf};
+ghost use Rattle.lab_rules.specs.passes.Counts.{noCounts, countsAll};
 ghost use Rattle.lab_pass.specs.passes.Links.{Links, link, linkBelow, walk};
 ghost use Rattle.lab_pass.specs.passes.Results.{markedIf, resultOf, resultAt, hasCells, lowestBroken, putRow, putRows};
 
@@ -86,7 +87,7 @@ fn mark_if(marking: bool, marks: &mut [u8; 1024], cell: Record)
     ensures { λ _. ⌜ now (marks .exit) ≡ cond marking (markAll (now (marks .entry)) (usesOf cell)) (now (marks .entry)) ⌝ }
 {
     if marking {
-        lab_rules::mark_cell(marks, cell);
+        lab_nets::mark_cell(marks, cell);
     }
 }
 

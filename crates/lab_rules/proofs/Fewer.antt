@@ -7,13 +7,12 @@ use mathlib.Core.List.{List, [], _∷_, _++_, map, Sublistᴰ, Sublistᴰ·slnil
 use Rattle.exercise.specs.declared.RegisterCell.{RegisterCell}
 use Rattle.exercise.specs.declared.Record.{Record}
 use Rattle.distinct.specs.Rising.{distinct}
-use Rattle.distinct.proofs.Rising.{In, rising-part, distinct-mono}
+use Rattle.distinct.proofs.Rising.{In, in-append, append-in, rising-part, distinct-mono}
 use Rattle.route.specs.Table.{Table, CLK, ENA, ACLR, SCLR, SLOAD}
 use Rattle.route.specs.Way.{Way}
 use Rattle.route.proofs.Ways.{way-part}
 use Rattle.lab_rules.specs.Ports.{clk, ena, aclr, sclr, sload, needed, ofRegister, inLab}
 use Rattle.lab_rules.specs.Rules.{needsAt, needs}
-use Rattle.lab_rules.proofs.Folded.{in-append, append-in}
 
 map-part : {A B : Type 0} (f : A → B) {xs ys : List A} → Sublistᴰ xs ys → Sublistᴰ (map f xs) (map f ys)
 map-part f Sublistᴰ·slnil = Sublistᴰ·slnil

@@ -18,15 +18,15 @@ use Rattle.sheet.proofs.Laws.{by-test, or-parts}
 use Rattle.sheet.proofs.Lists.{filter-append, filter-length}
 use Rattle.distinct.specs.Rising.{rising, distinct}
 use Rattle.distinct.specs.passes.UpToTwo.{upToTwo}
-use Rattle.distinct.proofs.Rising.{In, in-map, rising-filter, distinct-image}
+use Rattle.distinct.proofs.Rising.{In, in-append, append-in, in-map, rising-filter, distinct-image}
+use Rattle.distinct.proofs.Nets.{in-elem}
 use Rattle.distinct.proofs.Codes.{codes-held}
 use Rattle.route.specs.declared.Need.{Need}
 use Rattle.route.specs.Table.{CLK, ENA, ACLR, SCLR, SLOAD}
-use Rattle.lab_rules.specs.Ports.{clk, ena, aclr, sclr, sload, used, counted, clock, clockPair, clear, pair, inUse, needed, inLab, inputs}
+use Rattle.lab_nets.specs.NetsIn.{inputs}
+use Rattle.lab_rules.specs.Ports.{clk, ena, aclr, sclr, sload, used, counted, clock, clockPair, clear, pair, inUse, needed, inLab}
 use Rattle.lab_rules.specs.Rules.{tooManyClocks, tooManyPairs, tooManyClears, tooManySynchronous, needsOfRole, needs}
 use Rattle.lab_rules.specs.passes.Counts.{countsOf, onlyCode, needsHeld, Fit, AllFit}
-use Rattle.lab_rules.proofs.Folded.{in-append, append-in}
-use Rattle.distinct.proofs.Nets.{in-elem}
 
 -- ---- lists
 only-held : (l : List ℕ) → length l ≤ 1 → onlyCode (upToTwo l) ≡ l

@@ -11,15 +11,15 @@ use Rattle.exercise.specs.declared.RegisterCell.{RegisterCell}
 use Rattle.exercise.specs.declared.Record.{Record}
 use Rattle.sheet.proofs.Laws.{by-test}
 use Rattle.distinct.specs.Rising.{rising}
-use Rattle.distinct.proofs.Rising.{In, rising-same}
+use Rattle.distinct.proofs.Rising.{In, in-append, append-in, rising-same}
 use Rattle.distinct.proofs.Nets.{elem-in, in-elem}
 use Rattle.route.specs.declared.Need.{Need}
 use Rattle.route.specs.Table.{Table}
 use Rattle.route.specs.Way.{earliestWay}
 use Rattle.route.specs.Route.{labRouteOf}
-use Rattle.lab_rules.specs.Ports.{clk, ena, aclr, sclr, sload, clock, clockPair, clear, inUse, needed, ofRegister, inLab, inputs, netsAt, netsIn}
+use Rattle.lab_nets.specs.NetsIn.{inputs, netsAt, netsIn}
+use Rattle.lab_rules.specs.Ports.{clk, ena, aclr, sclr, sload, clock, clockPair, clear, inUse, needed, ofRegister, inLab}
 use Rattle.lab_rules.specs.Rules.{tooManyClocks, tooManyPairs, tooManyClears, tooManySynchronous, tooManyNets, needs, noWay, labNumber, routeOf, labResult}
-use Rattle.lab_rules.proofs.Folded.{in-append, append-in}
 
 -- ---- what the elements of a list bring, in another order
 module _ {A : Type 0} (f : A → List ℕ) where

@@ -16,7 +16,8 @@ use Rattle.route.specs.declared.Need.{Need}
 use Rattle.route.specs.Table.{Table}
 use Rattle.route.specs.Way.{earliestWay}
 use Rattle.route.specs.Route.{labRouteOf}
-use Rattle.lab_rules.specs.Ports.{sclr, sload, clock, clockPair, clear, inUse, inLab, netsIn}
+use Rattle.lab_nets.specs.NetsIn.{netsIn}
+use Rattle.lab_rules.specs.Ports.{sclr, sload, clock, clockPair, clear, inUse, inLab}
 use Rattle.lab_rules.specs.Rules.{tooManyClocks, tooManyPairs, tooManyClears, tooManySynchronous, tooManyNets, needs, isNone, noWay, labRules, labNumber, routeOf, labResult}
 use Rattle.lab_rules.specs.passes.Counts.{countsOf, brokenBy, routedResult, resultFrom, AllFit}
 use Rattle.lab_rules.proofs.Needed.{needs-held}

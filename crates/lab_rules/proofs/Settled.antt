@@ -10,7 +10,8 @@ use Rattle.exercise.specs.declared.Record.{Record}
 use Rattle.route.specs.Table.{houseBoard}
 use Rattle.route.specs.passes.Search.{pick, searchFrom, foundWay}
 use Rattle.route.proofs.AllWays.{found-earliest}
-use Rattle.lab_rules.specs.Ports.{counted, clockPair, inUse, needed, inLab, inputs, netsIn}
+use Rattle.lab_nets.specs.NetsIn.{inputs, netsIn}
+use Rattle.lab_rules.specs.Ports.{counted, clockPair, inUse, needed, inLab}
 use Rattle.lab_rules.specs.Rules.{tooManyClocks, tooManyPairs, tooManyClears, tooManySynchronous, tooManyNets, needs, isNone, noWay, labRules, labNumber}
 use Rattle.lab_rules.specs.Examples.{Claim, Holds, Settled, route}
 

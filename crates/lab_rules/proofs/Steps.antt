@@ -1,14 +1,13 @@
--- What one function after the other adds to the counters, the marks and the needs of a LAB is what one list of them adds. Assumes nothing.
+-- What one function after the other adds to the counters and the needs of a LAB is what one list of them adds. Assumes nothing.
 use Prim.Native.Nat.{ℕ, _+_, _≤_}
 use mathlib.Core.Path.{_≡_, refl, _∙_}
 use mathlib.Core.Bool.{Bool, true, false, cond, _&&_}
-use mathlib.Core.List.{List, [], _∷_, _++_, map, append-nil, append-assoc}
+use mathlib.Core.List.{List, [], _∷_, _++_, append-nil, append-assoc}
 use native.Mathlib.Omega.{arith}
 use denote.Enum.Declared.{tagOf}
 use lib.ListN.{length, length-append, length-map}
 use lib.Dec.{eqb, ltb}
-use Rattle.sheet.specs.Lists.{filterb}
-use Rattle.sheet.specs.Signal.{isNet, netOf}
+use Rattle.sheet.specs.Signal.{isNet}
 use Rattle.exercise.specs.declared.Record.{Record}
 use Rattle.exercise.specs.declared.Record.the-variants.{Combinational, Register, Malformed}
 use Rattle.exercise.proofs.Record.{the-type}
@@ -16,8 +15,6 @@ use Rattle.sheet.proofs.Laws.{by-test}
 use Rattle.sheet.proofs.Lists.{filter-length}
 use Rattle.distinct.specs.declared.UpToTwo.{UpToTwo}
 use Rattle.distinct.specs.passes.UpToTwo.{withCodes, codesOf}
-use Rattle.distinct.specs.passes.Marks.{Use, reads, drives, mark, markAll}
-use Rattle.distinct.proofs.Nets.{mark-append}
 use Rattle.route.specs.declared.Need.{Need}
 use Rattle.route.specs.declared.Needs.{Needs}
 use Rattle.route.specs.declared.LabRoute.{LabRoute}
@@ -26,10 +23,8 @@ use Rattle.route.specs.Way.{earliestWay}
 use Rattle.route.specs.Route.{labRouteOf}
 use Rattle.route.proofs.NeedLists.{no-needs-of, list-needs, with-need}
 use Rattle.lab_rules.specs.declared.Counts.{Counts}
-use Rattle.lab_rules.specs.Ports.{inputs, netsAt}
-use Rattle.exercise.specs.Record.{outputs}
 use Rattle.lab_rules.specs.Rules.{needsOfRole}
-use Rattle.lab_rules.specs.passes.Counts.{countsWith, usesOf, netCodes, onlyCode, brokenBy, withNeeds, needsHeld, routedResult, resultFrom}
+use Rattle.lab_rules.specs.passes.Counts.{countsWith, netCodes, onlyCode, brokenBy, withNeeds, needsHeld, routedResult, resultFrom}
 
 -- ---- counters
 pub with-cond : (d : UpToTwo) (b : Bool) (xs ys : List ℕ) → withCodes d (cond b xs ys) ≡ cond b (withCodes d xs) (withCodes d ys)
@@ -42,32 +37,6 @@ unfolding countsWith withCodes
 no-register k (Register r) h = absurd (h refl)
 no-register k (Combinational c) h = refl
 no-register k Malformed h = refl
-
--- ---- marks
-module _ (how : ℕ → Use) where
-  pub mark-one : (m : List ℕ) (s : ℕ) → markAll m (map how (netsAt (s ∷ []))) ≡ cond (isNet s) (mark m (how (netOf s))) m
-  unfolding markAll
-  mark-one m s = by-test (isNet s) (λ e. rw e) (λ e. rw e)
-
-  -- the signals of a list, one after the other
-  abbrev pub markEach : List ℕ → List ℕ → List ℕ
-  markEach m [] = m
-  markEach m (s ∷ ss) = markEach (markAll m (map how (netsAt (s ∷ [])))) ss
-
-  pub mark-each : (m ss : List ℕ) → markAll m (map how (netsAt ss)) ≡ markEach m ss
-  unfolding markAll
-  mark-each m [] = refl
-  mark-each m (s ∷ ss) = by-test (isNet s) (λ e. rw e (mark-each (mark m (how (netOf s))) ss)) (λ e. rw e (mark-each m ss))
-
-pub mark-ports : (m : List ℕ) (c : Record) → markAll m (usesOf c) ≡ markEach drives (markEach reads m (inputs c)) (outputs c)
-unfolding usesOf
-mark-ports m c =
-    mark-append m (map reads (netsAt (inputs c))) (map drives (netsAt (outputs c)))
-    ∙ rw (mark-each reads m (inputs c)) (mark-each drives (markEach reads m (inputs c)) (outputs c))
-
-pub no-ports : (m : List ℕ) → markAll m (usesOf Malformed) ≡ m
-unfolding usesOf inputs outputs markAll
-no-ports m = refl
 
 -- ---- needs
 pub needs-append : (n : Needs) (xs ys : List Need) → withNeeds n (xs ++ ys) ≡ withNeeds (withNeeds n xs) ys

@@ -15,8 +15,9 @@ use Rattle.route.specs.declared.LabRoute.{LabRoute}
 use Rattle.route.specs.Table.{Table, CLK, ENA, ACLR, SCLR, SLOAD}
 use Rattle.route.specs.Way.{earliestWay}
 use Rattle.route.specs.Route.{labRouteOf}
+use Rattle.lab_nets.specs.NetsIn.{netsIn}
 use Rattle.lab_rules.specs.declared.LabResult.{LabResult}
-use Rattle.lab_rules.specs.Ports.{clk, ena, aclr, sclr, sload, clock, clockPair, clear, inUse, needed, inLab, netsIn}
+use Rattle.lab_rules.specs.Ports.{clk, ena, aclr, sclr, sload, clock, clockPair, clear, inUse, needed, inLab}
 
 -- 60: "more than 2 distinct clk signals"
 unfoldable pub tooManyClocks : List Record → Bool

@@ -1,5 +1,4 @@
 use distinct::UpToTwo;
-use exercise::CombinationalCell;
 use exercise::Record;
 use exercise::RegisterCell;
 use route::EntryTable;
@@ -8,16 +7,15 @@ use route::Needs;
 use sheet::Signal;
 ghost use mathlib.Core.Path.{_≡_};
 ghost use mathlib.Core.Bool.{Bool, cond, _||_};
-ghost use mathlib.Core.List.{[], _∷_, map};
+ghost use mathlib.Core.List.{[], _∷_};
 ghost use lib.Dec.{eqb};
 ghost use Rattle.sheet.specs.Signal.{UNCONNECTED, GND, VCC, connected, isNet};
-ghost use Rattle.exercise.specs.declared.Record.«the-variants».{Combinational, Register};
+ghost use Rattle.exercise.specs.declared.Record.«the-variants».{Register};
 ghost use Rattle.distinct.specs.passes.UpToTwo.{withCodes, codesOf};
-ghost use Rattle.distinct.specs.passes.Marks.{reads, drives, markAll};
 ghost use Rattle.route.specs.Table.{needsOf};
-ghost use Rattle.lab_rules.specs.Ports.{clockPair, pair, netsAt};
+ghost use Rattle.lab_rules.specs.Ports.{clockPair, pair};
 ghost use Rattle.lab_rules.specs.Rules.{needsOfRole};
-ghost use Rattle.lab_rules.specs.passes.Counts.{noCounts, countsWith, usesOf, brokenBy, netCodes, onlyCode, withNeeds, needsHeld, resultFrom};
+ghost use Rattle.lab_rules.specs.passes.Counts.{noCounts, countsWith, brokenBy, netCodes, onlyCode, withNeeds, needsHeld, resultFrom};
 
 // Rule 64: more nets than this break it.
 pub const MAX_NETS_IN: u16 = 38;
@@ -147,59 +145,6 @@ impl Counts {
             sync_loads,
             enables,
         }
-    }
-}
-
-// Marks the net of a signal as read.
-fn mark_input(marks: &mut [u8; 1024], signal: Signal)
-    ensures { λ _. ⌜ now (marks .exit) ≡ markAll (now (marks .entry)) (map reads (netsAt (signal .0 ∷ []))) ⌝ }
-{
-    if signal.is_net() {
-        distinct::mark_read(marks, signal.net() as usize);
-    }
-}
-
-// Marks the net of a signal as driven.
-fn mark_output(marks: &mut [u8; 1024], signal: Signal)
-    ensures { λ _. ⌜ now (marks .exit) ≡ markAll (now (marks .entry)) (map drives (netsAt (signal .0 ∷ []))) ⌝ }
-{
-    if signal.is_net() {
-        distinct::mark_driven(marks, signal.net() as usize);
-    }
-}
-
-fn mark_combinational(marks: &mut [u8; 1024], cell: CombinationalCell)
-    ensures { λ _. ⌜ now (marks .exit) ≡ markAll (now (marks .entry)) (usesOf (Combinational cell)) ⌝ }
-{
-    mark_input(marks, cell.dataa);
-    mark_input(marks, cell.datab);
-    mark_input(marks, cell.datac);
-    mark_input(marks, cell.datad);
-    mark_output(marks, cell.combout);
-    mark_output(marks, cell.cout);
-}
-
-fn mark_register(marks: &mut [u8; 1024], cell: RegisterCell)
-    ensures { λ _. ⌜ now (marks .exit) ≡ markAll (now (marks .entry)) (usesOf (Register cell)) ⌝ }
-{
-    mark_input(marks, cell.datain);
-    mark_input(marks, cell.clk);
-    mark_input(marks, cell.ena);
-    mark_input(marks, cell.aclr);
-    mark_input(marks, cell.sclr);
-    mark_input(marks, cell.sload);
-    mark_input(marks, cell.sdata);
-    mark_output(marks, cell.regout);
-}
-
-// Marks the nets of a cell: those that it reads at any port but cin, and those that it drives.
-pub fn mark_cell(marks: &mut [u8; 1024], cell: Record)
-    ensures { λ _. ⌜ now (marks .exit) ≡ markAll (now (marks .entry)) (usesOf cell) ⌝ }
-{
-    match cell {
-        Record::Combinational(c) => mark_combinational(marks, c),
-        Record::Register(c) => mark_register(marks, c),
-        Record::Malformed => {}
     }
 }
 

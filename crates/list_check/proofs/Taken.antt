@@ -18,10 +18,13 @@ use Rattle.distinct.specs.passes.Marks.{markAll, readMarks}
 use Rattle.route.specs.Table.{Table}
 use Rattle.route.specs.Way.{isWay, entryLists, ways, earliestWay}
 use Rattle.route.specs.Route.{eightBytes, labRouteOf}
-use Rattle.lab_rules.specs.Ports.{inLab, netsIn}
+use Rattle.lab_nets.specs.NetsIn.{netsIn}
+use Rattle.lab_nets.specs.passes.Uses.{markCells}
+use Rattle.lab_nets.proofs.Cells.{marks-cons}
+use Rattle.lab_rules.specs.Ports.{inLab}
 use Rattle.lab_rules.specs.Rules.{tooManyClocks, tooManyPairs, tooManyClears, tooManySynchronous, tooManyNets, needs, noWay, routeOf, labNumber, labResult}
-use Rattle.lab_rules.specs.passes.Counts.{noCounts, countsAll, markCells, refused, resultFrom, Fit, AllFit}
-use Rattle.lab_rules.proofs.Folded.{counts-are, marks-cons, nets-are}
+use Rattle.lab_rules.specs.passes.Counts.{noCounts, countsAll, refused, resultFrom, Fit, AllFit}
+use Rattle.lab_rules.proofs.Folded.{counts-are, nets-are}
 use Rattle.lab_rules.proofs.Result.{result-is}
 use Rattle.netlist.specs.Cells.{registerChecks}
 use Rattle.tables.proofs.Decoded.{inputs-good, outputs-good}

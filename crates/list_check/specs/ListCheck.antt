@@ -14,7 +14,7 @@ use Rattle.distinct.specs.passes.Marks.{markAll, readMarks}
 use Rattle.route.specs.Table.{Table}
 use Rattle.lab_rules.specs.declared.LabResult.{LabResult}
 use Rattle.lab_rules.specs.Rules.{labChecks, routeOf}
-use Rattle.lab_rules.specs.passes.Counts.{noCounts, countsWith, usesOf, refused, resultFrom}
+use Rattle.lab_rules.specs.passes.Counts.{noCounts, countsWith, refused, resultFrom}
 use Rattle.netlist.specs.Cells.{registerChecks}
 use Rattle.list_check.specs.declared.CellRecord.{CellRecord}
 use Rattle.list_check.specs.declared.ListState.{ListState}

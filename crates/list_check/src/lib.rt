@@ -103,7 +103,7 @@ fn take_cell(state: ListState, cell: CellRecord) -> ListState
 {
     let decoded = record_from(cell);
     let mut marks = state.marks;
-    lab_rules::mark_cell(&mut marks, decoded);
+    lab_nets::mark_cell(&mut marks, decoded);
     let counts = state.counts.with(decoded);
     let fit = state.fit & !is_unfit(decoded);
     ListState { fit, counts, marks }

@@ -5,7 +5,8 @@ use mathlib.Core.List.{List, [], _∷_, _++_}
 use Rattle.sheet.specs.Lists.{concatMap}
 use Rattle.judge.specs.Judge.{carryNotNext, labCells, occupied, roomChecks, exerciseGroup, answerGroup, cellGroup}
 use Rattle.judge.specs.Judge.{placeGroup, labGroup, checksTo51, checks, apprenticeOf, verdictOf, judged}
-use Rattle.lab_rules.specs.Ports.{counted, clockPair, inUse, needed, inLab, inputs, netsIn}
+use Rattle.lab_nets.specs.NetsIn.{inputs, netsIn}
+use Rattle.lab_rules.specs.Ports.{counted, clockPair, inUse, needed, inLab}
 use Rattle.lab_rules.specs.Rules.{tooManyClocks, tooManyPairs, tooManyClears, tooManySynchronous, tooManyNets, needs, noWay, routeOf}
 use Rattle.lab_pass.specs.Members.{members}
 use Rattle.tables.specs.Records.{cell, malformed, driven, doubleDriver}

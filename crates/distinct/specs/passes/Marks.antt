@@ -1,10 +1,10 @@
 -- The marks that count nets, one byte a net: 0 unseen, 1 read, 2 driven by a cell of the LAB. Assumes nothing.
-use Prim.Native.Nat.{ℕ, _<_}
+use Prim.Native.Nat.{ℕ}
 use mathlib.Core.Bool.{cond}
 use mathlib.Core.List.{List, [], _∷_}
 use lib.ListN.{length, getD, set}
 use lib.Dec.{eqb}
-use Rattle.sheet.specs.Lists.{filterb, Every}
+use Rattle.sheet.specs.Lists.{filterb}
 
 -- what a cell does to a net: it reads it, or it drives it
 pub data Use : Type 0 where
@@ -20,15 +20,6 @@ abbrev pub netsDriven : List Use → List ℕ
 netsDriven [] = []
 netsDriven (reads n ∷ us) = netsDriven us
 netsDriven (drives n ∷ us) = n ∷ netsDriven us
-
--- the net is below the limit of an exercise
-abbrev pub Low : Use → Type 0
-Low (reads n) = n < 1024
-Low (drives n) = n < 1024
-
--- every net is
-abbrev pub InRange : List Use → Type 0
-InRange = Every Low
 
 -- the marks once net n is read: a net that is driven in the LAB stays so. A net past the end leaves no mark
 unfoldable pub markRead : List ℕ → ℕ → List ℕ

@@ -9,7 +9,8 @@ use Rattle.sheet.specs.Lists.{firstFrom}
 use Rattle.exercise.specs.declared.Record.{Record}
 use Rattle.distinct.specs.passes.Marks.{readMarks}
 use Rattle.route.specs.Table.{Table}
-use Rattle.lab_rules.specs.passes.Counts.{noCounts, countsAll, markCells, resultFrom}
+use Rattle.lab_nets.specs.passes.Uses.{markCells}
+use Rattle.lab_rules.specs.passes.Counts.{noCounts, countsAll, resultFrom}
 use Rattle.lab_rules.specs.declared.LabResult.{LabResult}
 use Rattle.sheet.specs.Checks.{NONE}
 use Rattle.lab_pass.specs.passes.Links.{walk}

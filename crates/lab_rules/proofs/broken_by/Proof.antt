@@ -1,4 +1,4 @@
--- `lab::broken_by` meets its contract: its tests are the checks of the definition, in their order.
+-- `lab_rules::broken_by` meets its contract: its tests are the checks of the definition, in their order.
 -- Assumes nothing.
 use Rattle.sheet.proofs.Laws.{tested}
 use Rattle.lab_rules.specs.passes.Counts.{brokenBy}

@@ -1,4 +1,4 @@
--- `lab::enable_or_vcc` meets its contract: its test is the test of the definition.
+-- `lab_rules::enable_or_vcc` meets its contract: its test is the test of the definition.
 -- Assumes nothing.
 use borrow.Author.Needs.{needs}
 use Rattle.sheet.proofs.Laws.{tested}

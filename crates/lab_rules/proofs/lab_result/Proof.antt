@@ -1,4 +1,4 @@
--- `lab::lab_result` meets its contract. A broken rule is the result; else the route of the needs that are held decides.
+-- `lab_rules::lab_result` meets its contract. A broken rule is the result; else the route of the needs that are held decides.
 -- Assumes nothing.
 use mathlib.Core.Path.{sym, _∙_}
 use borrow.Author.Tests.{ne-eqb}

@@ -1,4 +1,4 @@
--- `lab::needs_held` meets its contract: the five roles add their needs one after the other, and there are at most eight.
+-- `lab_rules::needs_held` meets its contract: the five roles add their needs one after the other, and there are at most eight.
 -- Assumes nothing.
 use borrow.Author.Needs.{needs}
 use Rattle.lab_rules.specs.passes.Counts.{needsHeld}

@@ -1,4 +1,4 @@
--- `lab::with_code` meets its contract: from 4 to 65535 a code is a net's, and no other is.
+-- `lab_rules::with_code` meets its contract: from 4 to 65535 a code is a net's, and no other is.
 -- Assumes nothing.
 use native.Mathlib.Omega.{arith}
 use borrow.Author.Tests.{lt-leb, le-leb, lt-ltb, le-ltb}

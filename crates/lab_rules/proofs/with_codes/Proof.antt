@@ -1,4 +1,4 @@
--- `lab::with_codes` meets its contract: the counter holds one code, two or none by its count, and two are added one after the other.
+-- `lab_rules::with_codes` meets its contract: the counter holds one code, two or none by its count, and two are added one after the other.
 -- Assumes nothing.
 use borrow.Author.Tests.{ne-eqb}
 use borrow.Author.Needs.{needs}

@@ -1,4 +1,4 @@
--- `lab::with_counted` meets its contract: a choice between lists of codes is a choice between counters, and each `return` stands under the tests of its arm.
+-- `lab_rules::with_counted` meets its contract: a choice between lists of codes is a choice between counters, and each `return` stands under the tests of its arm.
 -- Assumes nothing.
 use borrow.Author.Needs.{needs}
 use Rattle.distinct.specs.passes.UpToTwo.{withCodes}

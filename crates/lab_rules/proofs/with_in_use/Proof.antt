@@ -1,4 +1,4 @@
--- `lab::with_in_use` meets its contract: the two tests are those of the definition.
+-- `lab_rules::with_in_use` meets its contract: the two tests are those of the definition.
 -- Assumes nothing.
 use borrow.Author.Needs.{needs}
 use Rattle.distinct.specs.passes.UpToTwo.{withCodes}

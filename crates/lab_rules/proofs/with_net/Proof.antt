@@ -1,4 +1,4 @@
--- `lab::with_net` meets its contract: its test is the test of the definition.
+-- `lab_rules::with_net` meets its contract: its test is the test of the definition.
 -- Assumes nothing.
 use borrow.Author.Needs.{needs}
 use Rattle.distinct.specs.passes.UpToTwo.{withCodes}

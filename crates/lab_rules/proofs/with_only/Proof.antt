@@ -1,4 +1,4 @@
--- `lab::with_only` meets its contract: the counter holds one code where its count is 1.
+-- `lab_rules::with_only` meets its contract: the counter holds one code where its count is 1.
 -- Assumes nothing.
 use borrow.Author.Tests.{ne-eqb}
 use borrow.Author.Needs.{needs}

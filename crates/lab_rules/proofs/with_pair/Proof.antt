@@ -1,4 +1,4 @@
--- `lab::with_pair` meets its contract: the clk is chosen as `clock` chooses it, and the code is made of it and of the enable that counts.
+-- `lab_rules::with_pair` meets its contract: the clk is chosen as `clock` chooses it, and the code is made of it and of the enable that counts.
 -- Assumes nothing.
 use mathlib.Core.Path.{sym, _∙_}
 use borrow.Author.Needs.{needs}

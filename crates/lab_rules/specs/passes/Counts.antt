@@ -5,14 +5,14 @@ use mathlib.Core.Bool.{Bool, true, false, cond, _&&_, _||_}
 use mathlib.Core.List.{List, [], _∷_, _++_, map}
 use lib.ListN.{length, replicate}
 use lib.Dec.{eqb, ltb}
-use Rattle.sheet.specs.Lists.{concatMap, filterb, Every, elemb}
+use Rattle.sheet.specs.Lists.{filterb, Every, elemb}
 use Rattle.sheet.specs.Checks.{Check, check, firstNumber}
 use Rattle.sheet.specs.Signal.{connected, isNet}
+use Rattle.exercise.specs.Record.{outputs}
 use Rattle.exercise.specs.declared.RegisterCell.{RegisterCell}
 use Rattle.exercise.specs.declared.Record.{Record}
 use Rattle.exercise.specs.declared.Record.the-variants.{Combinational, Register, Malformed}
 use Rattle.distinct.specs.Rising.{rising}
-use Rattle.distinct.specs.passes.Marks.{Use, reads, drives, markAll}
 use Rattle.distinct.specs.passes.UpToTwo.{noCode, withCodes, upToTwo, codesOf}
 use Rattle.distinct.specs.declared.UpToTwo.{UpToTwo}
 use Rattle.route.specs.declared.Need.{Need}
@@ -21,10 +21,10 @@ use Rattle.route.specs.declared.Needs.{Needs}
 use Rattle.route.specs.Table.{withNeed, Table, CLK, ENA, ACLR, SCLR, SLOAD}
 use Rattle.route.specs.Way.{earliestWay}
 use Rattle.route.specs.Route.{labRouteOf}
+use Rattle.lab_nets.specs.NetsIn.{inputs}
 use Rattle.lab_rules.specs.declared.Counts.{Counts}
 use Rattle.lab_rules.specs.declared.LabResult.{LabResult}
-use Rattle.lab_rules.specs.Ports.{clk, ena, aclr, sclr, sload, clock, clockPair, clear, inUse, needed, ofRegister, inLab, inputs, netsAt}
-use Rattle.exercise.specs.Record.{outputs}
+use Rattle.lab_rules.specs.Ports.{clk, ena, aclr, sclr, sload, clock, clockPair, clear, inUse, needed, ofRegister, inLab}
 use Rattle.lab_rules.specs.Rules.{needsOfRole}
 
 abbrev pub noCounts : Counts
@@ -56,14 +56,6 @@ countsOf cs = record {
   «sync_loads» = upToTwo (rising (inLab (inUse sload) cs));
   enables = upToTwo (rising (inLab (needed ena) cs));
 }
-
--- what a cell does to nets: its reads without cin, then its drives
-unfoldable pub usesOf : Record → List Use
-usesOf c = map reads (netsAt (inputs c)) ++ map drives (netsAt (outputs c))
-
--- the marks after one cell, and after a list of cells
-unfoldable pub markCells : List ℕ → List Record → List ℕ
-markCells marks cs = markAll marks (concatMap usesOf cs)
 
 -- the lowest of 60 to 64 that counts and a number of nets break, or 0
 unfoldable pub brokenBy : Counts → ℕ → ℕ

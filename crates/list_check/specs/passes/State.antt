@@ -5,7 +5,8 @@ use lib.ListN.{replicate}
 use Rattle.distinct.specs.passes.Marks.{markAll, readMarks}
 use Rattle.route.specs.Table.{Table}
 use Rattle.lab_rules.specs.declared.LabResult.{LabResult}
-use Rattle.lab_rules.specs.passes.Counts.{noCounts, countsWith, usesOf, refused, resultFrom}
+use Rattle.lab_nets.specs.passes.Uses.{usesOf}
+use Rattle.lab_rules.specs.passes.Counts.{noCounts, countsWith, refused, resultFrom}
 use Rattle.list_check.specs.declared.CellRecord.{CellRecord}
 use Rattle.list_check.specs.declared.ListState.{ListState}
 use Rattle.list_check.specs.ListCheck.{unfit, recordFrom}

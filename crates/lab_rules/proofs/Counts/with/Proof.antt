@@ -1,4 +1,4 @@
--- `lab::Counts::with` meets its contract: a register is counted by `with_register`, and to the other cells no port counts.
+-- `lab_rules::Counts::with` meets its contract: a register is counted by `with_register`, and to the other cells no port counts.
 -- Assumes nothing.
 use mathlib.Core.Logic.{⊎-elim}
 use native.Mathlib.Omega.{arith}

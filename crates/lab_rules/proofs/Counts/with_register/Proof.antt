@@ -1,4 +1,4 @@
--- `lab::Counts::with_register` meets its contract: each counter takes what its own port gives.
+-- `lab_rules::Counts::with_register` meets its contract: each counter takes what its own port gives.
 -- Assumes nothing.
 use borrow.Author.Needs.{needs}
 use Rattle.lab_rules.specs.Ports.{counted, inUse, needed}

@@ -1,11 +1,11 @@
--- `lab::mark_input` meets its contract: the nets of one signal are its net, or none.
+-- `lab_nets::mark_input` meets its contract: the nets of one signal are its net, or none.
 -- Assumes nothing.
 use borrow.Author.Needs.{needs}
 use Rattle.sheet.proofs.Laws.{chain, stops-by}
 use Rattle.distinct.specs.passes.Marks.{reads}
-use Rattle.lab_rules.proofs.Steps.{mark-one}
-use Rattle.lab_rules.proofs.mark_input.Statement.{statement}
-use Rattle.lab_rules.proofs.mark_input.Tie as tie
+use Rattle.lab_nets.proofs.Ports.{mark-one}
+use Rattle.lab_nets.proofs.mark_input.Statement.{statement}
+use Rattle.lab_nets.proofs.mark_input.Tie as tie
 
 pub mark-input-spec : {M : Type 1} → statement M
 mark-input-spec =

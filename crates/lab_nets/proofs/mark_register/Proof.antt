@@ -1,11 +1,11 @@
--- `lab::mark_register` meets its contract: the marks of a cell are those of its inputs and then of its output, one signal after the other.
+-- `lab_nets::mark_register` meets its contract: the marks of a cell are those of its inputs and then of its output, one signal after the other.
 -- Assumes nothing.
 use borrow.Author.Needs.{needs}
-use Rattle.lab_rules.specs.Ports.{inputs}
+use Rattle.lab_nets.specs.NetsIn.{inputs}
 use Rattle.exercise.specs.Record.{outputs}
-use Rattle.lab_rules.proofs.Steps.{mark-ports}
-use Rattle.lab_rules.proofs.mark_register.Statement.{statement}
-use Rattle.lab_rules.proofs.mark_register.Tie as tie
+use Rattle.lab_nets.proofs.Ports.{mark-ports}
+use Rattle.lab_nets.proofs.mark_register.Statement.{statement}
+use Rattle.lab_nets.proofs.mark_register.Tie as tie
 
 returns : tie.Need-returns
 unfolding inputs outputs

@@ -1,11 +1,11 @@
--- `lab::mark_output` meets its contract: the nets of one signal are its net, or none.
+-- `lab_nets::mark_output` meets its contract: the nets of one signal are its net, or none.
 -- Assumes nothing.
 use borrow.Author.Needs.{needs}
 use Rattle.sheet.proofs.Laws.{chain, stops-by}
 use Rattle.distinct.specs.passes.Marks.{drives}
-use Rattle.lab_rules.proofs.Steps.{mark-one}
-use Rattle.lab_rules.proofs.mark_output.Statement.{statement}
-use Rattle.lab_rules.proofs.mark_output.Tie as tie
+use Rattle.lab_nets.proofs.Ports.{mark-one}
+use Rattle.lab_nets.proofs.mark_output.Statement.{statement}
+use Rattle.lab_nets.proofs.mark_output.Tie as tie
 
 pub mark-output-spec : {M : Type 1} → statement M
 mark-output-spec =

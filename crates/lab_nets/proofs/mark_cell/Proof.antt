@@ -1,9 +1,9 @@
--- `lab::mark_cell` meets its contract: each kind of cell has its function, and a malformed record has no ports.
+-- `lab_nets::mark_cell` meets its contract: each kind of cell has its function, and a malformed record has no ports.
 -- Assumes nothing.
 use borrow.Author.Needs.{needs}
-use Rattle.lab_rules.proofs.Steps.{no-ports}
-use Rattle.lab_rules.proofs.mark_cell.Statement.{statement}
-use Rattle.lab_rules.proofs.mark_cell.Tie as tie
+use Rattle.lab_nets.proofs.Ports.{no-ports}
+use Rattle.lab_nets.proofs.mark_cell.Statement.{statement}
+use Rattle.lab_nets.proofs.mark_cell.Tie as tie
 
 pub mark-cell-spec : {M : Type 1} → statement M
 mark-cell-spec =

@@ -1,0 +1,39 @@
+-- The marks of a cell are those of its inputs, then of its outputs, one signal after the other. Assumes nothing.
+use Prim.Native.Nat.{ℕ}
+use mathlib.Core.Path.{_≡_, refl, _∙_}
+use mathlib.Core.Bool.{cond}
+use mathlib.Core.List.{List, [], _∷_, map}
+use Rattle.sheet.specs.Signal.{isNet, netOf}
+use Rattle.exercise.specs.Record.{outputs}
+use Rattle.exercise.specs.declared.Record.{Record}
+use Rattle.exercise.specs.declared.Record.the-variants.{Malformed}
+use Rattle.sheet.proofs.Laws.{by-test}
+use Rattle.distinct.specs.passes.Marks.{Use, reads, drives, mark, markAll}
+use Rattle.distinct.proofs.Nets.{mark-append}
+use Rattle.lab_nets.specs.NetsIn.{inputs, netsAt}
+use Rattle.lab_nets.specs.passes.Uses.{usesOf}
+
+module _ (how : ℕ → Use) where
+  pub mark-one : (m : List ℕ) (s : ℕ) → markAll m (map how (netsAt (s ∷ []))) ≡ cond (isNet s) (mark m (how (netOf s))) m
+  unfolding markAll
+  mark-one m s = by-test (isNet s) (λ e. rw e) (λ e. rw e)
+
+  -- the signals of a list, one after the other
+  abbrev pub markEach : List ℕ → List ℕ → List ℕ
+  markEach m [] = m
+  markEach m (s ∷ ss) = markEach (markAll m (map how (netsAt (s ∷ [])))) ss
+
+  pub mark-each : (m ss : List ℕ) → markAll m (map how (netsAt ss)) ≡ markEach m ss
+  unfolding markAll
+  mark-each m [] = refl
+  mark-each m (s ∷ ss) = by-test (isNet s) (λ e. rw e (mark-each (mark m (how (netOf s))) ss)) (λ e. rw e (mark-each m ss))
+
+pub mark-ports : (m : List ℕ) (c : Record) → markAll m (usesOf c) ≡ markEach drives (markEach reads m (inputs c)) (outputs c)
+unfolding usesOf
+mark-ports m c =
+    mark-append m (map reads (netsAt (inputs c))) (map drives (netsAt (outputs c)))
+    ∙ rw (mark-each reads m (inputs c)) (mark-each drives (markEach reads m (inputs c)) (outputs c))
+
+pub no-ports : (m : List ℕ) → markAll m (usesOf Malformed) ≡ m
+unfolding usesOf inputs outputs markAll
+no-ports m = refl

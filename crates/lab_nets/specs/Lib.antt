@@ -1,0 +1,2 @@
+pub mod NetsIn
+pub mod passes
