@@ -1,7 +1,7 @@
 -- The marks of a cell are those of its inputs, then of its outputs, one signal after the other. Assumes nothing.
 use Prim.Native.Nat.{ℕ}
 use mathlib.Core.Path.{_≡_, refl, _∙_}
-use mathlib.Core.Bool.{cond}
+use mathlib.Core.Bool.{Bool, true, false, cond}
 use mathlib.Core.List.{List, [], _∷_, map}
 use Rattle.sheet.specs.Signal.{isNet, netOf}
 use Rattle.exercise.specs.Record.{outputs}
@@ -14,9 +14,15 @@ use Rattle.lab_nets.specs.NetsIn.{inputs, netsAt}
 use Rattle.lab_nets.specs.passes.Uses.{usesOf}
 
 module _ (how : ℕ → Use) where
-  pub mark-one : (m : List ℕ) (s : ℕ) → markAll m (map how (netsAt (s ∷ []))) ≡ cond (isNet s) (mark m (how (netOf s))) m
-  unfolding markAll
-  mark-one m s = by-test (isNet s) (λ e. rw e) (λ e. rw e)
+  -- a signal that is a net marks its net, and another marks nothing
+  module _ (m : List ℕ) (s : ℕ) (b : Bool) (e : b ≡ isNet s) where
+    pub net-marked : (n : ℕ) {l : List ℕ} → b ≡ true → n ≡ netOf s → l ≡ mark m (how n) → l ≡ markAll m (map how (netsAt (s ∷ [])))
+    unfolding markAll
+    net-marked n t k g = rw (← e, t, ← k) g
+
+    pub none-marked : b ≡ false → m ≡ markAll m (map how (netsAt (s ∷ [])))
+    unfolding markAll
+    none-marked f = rw (← e, f)
 
   -- the signals of a list, one after the other
   abbrev pub markEach : List ℕ → List ℕ → List ℕ

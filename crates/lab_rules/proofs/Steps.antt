@@ -1,6 +1,7 @@
 -- What one function after the other adds to the counters and the needs of a LAB is what one list of them adds. Assumes nothing.
 use Prim.Native.Nat.{ℕ, _+_, _≤_}
 use mathlib.Core.Path.{_≡_, refl, _∙_}
+use mathlib.Core.Logic.{_⊎_, inl, inr}
 use mathlib.Core.Bool.{Bool, true, false, cond, _&&_}
 use mathlib.Core.List.{List, [], _∷_, _++_, append-nil, append-assoc}
 use native.Mathlib.Omega.{arith}
@@ -32,9 +33,10 @@ with-cond d true xs ys = refl
 with-cond d false xs ys = refl
 
 -- to a cell that is no register nothing counts
-pub no-register : (k : Counts) (c : Record) → (tagOf the-type c ≡ 1 → ⊥) → k ≡ countsWith k c
+pub no-register : (k : Counts) (c : Record) → (tagOf the-type c ≡ 0) ⊎ (tagOf the-type c ≡ 2) → k ≡ countsWith k c
 unfolding countsWith withCodes
-no-register k (Register r) h = absurd (h refl)
+no-register k (Register r) (inl h) = absurd (omega arith)
+no-register k (Register r) (inr h) = absurd (omega arith)
 no-register k (Combinational c) h = refl
 no-register k Malformed h = refl
 

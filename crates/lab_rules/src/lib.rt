@@ -107,13 +107,14 @@ impl Counts {
     pub fn none() -> Self
         ensures { λ r. ⌜ r ≡ noCounts ⌝ }
     {
+        let none = UpToTwo::none();
         Counts {
-            clocks: UpToTwo::none(),
-            pairs: UpToTwo::none(),
-            clears: UpToTwo::none(),
-            sync_clears: UpToTwo::none(),
-            sync_loads: UpToTwo::none(),
-            enables: UpToTwo::none(),
+            clocks: none,
+            pairs: none,
+            clears: none,
+            sync_clears: none,
+            sync_loads: none,
+            enables: none,
         }
     }
 

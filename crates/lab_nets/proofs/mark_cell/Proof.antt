@@ -14,6 +14,6 @@ mark-cell-spec =
     (λ c. search needs)  -- enum-known-cell-2
     (λ c κs. search needs)  -- mark-register-requires
     (λ c. search needs)  -- enum-told
-    (λ c. cc)  -- returns
-    (λ c. cc)  -- returns-2
+    (λ c. rw (c .before .before .before .cell .given .1) (c .mark-combinational .ensures))  -- returns
+    (λ c. rw (c .before .before .before .cell2 .given .1) (c .mark-register .ensures))  -- returns-2
     (λ c. rw (c .enum-told .given .1, no-ports)))  -- returns-3

@@ -17,4 +17,4 @@ needs-held-spec =
     (λ c κs. search needs)  -- with-codes-requires-3
     (λ c κs. search needs)  -- with-only-requires
     (λ c κs. search needs)  -- with-only-requires-2
-    (λ c. rw (← held-of) (simp needs-append (cc))))  -- returns
+    (λ c. let a = c .before .before in let l = a .before .before in rw (← held-of) (simp needs-append (rw (c .with-only2 .ensures, c .before .with-only .ensures, a .with-codes3 .ensures, a .before .with-codes2 .ensures, l .with-codes .ensures, l .before .none .ensures)))))  -- returns

@@ -16,4 +16,4 @@ with-code-spec =
     (λ c. let s = c .before .before .args in rw (le-leb 4 (s .code) (omega arith), le-ltb (s .code) 65536 (omega arith)))  -- returns-2
     (λ c. search needs)  -- cast-t5
     (λ c κs. search needs)  -- with-requires
-    (λ c. let s = c .before .before .before .args in rw (le-leb 4 (s .code) (omega arith), lt-ltb (s .code) 65536 (omega arith)) (cc)))  -- returns-3
+    (λ c. let s = c .before .before .before .args in rw (le-leb 4 (s .code) (omega arith), lt-ltb (s .code) 65536 (omega arith)) (c .with .ensures)))  -- returns-3

@@ -12,5 +12,5 @@ with-only-spec =
     tie.close
     (tie.spec
     (λ c κs. search needs)  -- with-code-requires
-    (λ c. rw (c .before .if1 .taken) (cc))  -- returns
+    (λ c. rw (c .before .if1 .taken) (c .with-code .ensures))  -- returns
     (λ c. rw (ne-eqb _ _ (c .if1 .left))))  -- returns-2

@@ -16,9 +16,9 @@ with-pair-spec =
     (λ c κs. search needs)  -- is-connected-requires
     (λ c κs. search needs)  -- pair-requires
     (λ c κs. search needs)  -- with-requires
-    (λ c. let w = c .before .before .before in rw (sym (w .is-connected .ensures) ∙ c .before .before .if1 .taken) (cc))  -- returns
+    (λ c. let w = c .before .before .before in rw (sym (w .is-connected .ensures) ∙ c .before .before .if1 .taken) (c .with .ensures ∙ rw (c .before .pair .ensures, w .before .enable-or-vcc .ensures)))  -- returns
     (λ c κs. search needs)  -- is-connected-requires-2
     (λ c κs. search needs)  -- pair-requires-2
     (λ c κs. search needs)  -- with-requires-2
-    (λ c. let w = c .before .before .before in rw (sym (w .before .before .is-connected .ensures) ∙ w .before .if1 .left, sym (w .is-connected2 .ensures) ∙ c .before .before .if2 .taken) (cc))  -- returns-2
+    (λ c. let w = c .before .before .before in let u = w .before .before in rw (sym (u .is-connected .ensures) ∙ w .before .if1 .left, sym (w .is-connected2 .ensures) ∙ c .before .before .if2 .taken) (c .with2 .ensures ∙ rw (c .before .pair2 .ensures, u .before .enable-or-vcc .ensures)))  -- returns-2
     (λ c. let w = c .before in rw (sym (w .before .before .is-connected .ensures) ∙ w .before .if1 .left, sym (w .is-connected2 .ensures) ∙ c .if2 .left)))  -- returns-3

@@ -9,9 +9,4 @@ none-spec =
     tie.close
     (tie.spec
     (λ c κs. search needs)  -- none-requires
-    (λ c κs. search needs)  -- none-requires-2
-    (λ c κs. search needs)  -- none-requires-3
-    (λ c κs. search needs)  -- none-requires-4
-    (λ c κs. search needs)  -- none-requires-5
-    (λ c κs. search needs)  -- none-requires-6
-    (λ c. cc))  -- returns
+    (λ c. rw (c .none .ensures)))  -- returns

@@ -1,7 +1,5 @@
 -- `lab_rules::Counts::with` meets its contract: a register is counted by `with_register`, and to the other cells no port counts.
 -- Assumes nothing.
-use mathlib.Core.Logic.{⊎-elim}
-use native.Mathlib.Omega.{arith}
 use borrow.Author.Needs.{needs}
 use Rattle.lab_rules.proofs.Steps.{no-register}
 use Rattle.lab_rules.proofs.Counts.with.Statement.{statement}
@@ -12,6 +10,6 @@ with-spec =
     tie.close
     (tie.spec
     (λ c. search needs)  -- enum-known-cell
-    (λ c. no-register (c .before .args .self) (c .before .args .cell) (λ e. ⊎-elim (λ w. omega arith) (λ w. omega arith) (c .match .keys2)))  -- returns
+    (λ c. no-register _ _ (c .match .keys2))  -- returns
     (λ c κs. search needs)  -- with-register-requires
-    (λ c. cc))  -- returns-2
+    (λ c. rw (c .before .before .cell .given .1) (c .with-register .ensures)))  -- returns-2

@@ -18,4 +18,4 @@ with-register-spec =
     (λ c κs. search needs)  -- with-in-use-requires
     (λ c κs. search needs)  -- with-in-use-requires-2
     (λ c κs. search needs)  -- with-net-requires
-    (λ c. cc))  -- returns
+    (λ c. let l = c .before .before in let k = l .before .before in rw (c .with-net .ensures, c .before .with-in-use2 .ensures, l .with-in-use .ensures, l .before .with-counted2 .ensures, k .with-pair .ensures, k .before .with-counted .ensures, k .before .before .is-connected .ensures)))  -- returns
