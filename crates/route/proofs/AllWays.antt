@@ -10,7 +10,7 @@ use native.Mathlib.Nat.{zero-add, not-suc-le-zero, le-of-suc-le-suc}
 use native.Mathlib.Omega.{arith}
 use lib.ListN.{length, getD}
 use lib.Dec.{eqb}
-use borrow.Author.Tests.{eq-eqb, ne-eqb, eqb-false, not-false}
+use borrow.Author.Tests.{eqb-false, ne-eqb, not-true}
 use Rattle.sheet.specs.Lists.{concatMap, filterb, from, elemb}
 use Rattle.sheet.proofs.Laws.{by-test, and-parts, or-parts}
 use Rattle.route.specs.declared.Need.{Need}
@@ -18,7 +18,7 @@ use Rattle.route.specs.Table.{Table, serves, needAt}
 use Rattle.route.specs.Way.{Way, Earlier, isWay, entryLists, ways, firstOf, earliestWay}
 use Rattle.route.specs.passes.Search.{attempt, pick, foundWay}
 use Rattle.route.proofs.Search.{First, Begun, first-none, first-some, first-found, first-same, pick-first}
-use Rattle.route.proofs.Ways.{served-low, first-way}
+use Rattle.route.proofs.Ways.{served-low, way-nil, way-cons, way-serves, way-own, way-rest, first-way}
 
 -- ---- of all lists of entries, the first that passes a test
 module _ (p : List ℕ → Bool) (e : ℕ) (rest : List (List ℕ)) where
@@ -98,48 +98,20 @@ not-in e (x ∷ w) h = rw (ne-eqb e x (h 0 (omega arith))) (not-in e w (λ i m. 
 module _ (t : Table) where
   is-way : (ns : List Need) (w : List ℕ) → isWay t ns w ≡ true → Way t ns w
   unfolding isWay
-  is-way [] [] q = record { as-long = refl; serving = λ i h. absurd (not-suc-le-zero h); its-own = λ i j l h. absurd (not-suc-le-zero h) }
+  is-way [] [] q = way-nil t
   is-way [] (e ∷ w) q = absurd (true≢false (sym q))
   is-way (n ∷ ns) [] q = absurd (true≢false (sym q))
-  is-way (n ∷ ns) (e ∷ w) q = longer (is-way ns w (parts .1))
-    where
-      parts : (serves t e (n .role) && not (elemb e w) ≡ true) × (isWay t ns w ≡ true)
-      parts = and-parts (serves t e (n .role) && not (elemb e w)) (isWay t ns w) q
-
-      here : (serves t e (n .role) ≡ true) × (not (elemb e w) ≡ true)
-      here = and-parts (serves t e (n .role)) (not (elemb e w)) (parts .0)
-
-      free : elemb e w ≡ false
-      free = by-test (elemb e w) (λ b. absurd (true≢false (sym (here .1) ∙ ap not b))) (λ b. b)
-
-      longer : Way t ns w → Way t (n ∷ ns) (e ∷ w)
-      longer rest = record { as-long = ap suc (rest .as-long); serving = serve; its-own = apart }
-        where
-          serve : (i : ℕ) → i < length (n ∷ ns) → serves t (getD (e ∷ w) i 0) (needAt (n ∷ ns) i .role) ≡ true
-          serve zero h = here .0
-          serve (suc i) h = rest .serving i (le-of-suc-le-suc h)
-
-          apart : (i j : ℕ) → i < j → j < length (n ∷ ns) → getD (e ∷ w) i 0 ≡ getD (e ∷ w) j 0 → ⊥
-          apart i zero l h s = not-suc-le-zero l
-          apart zero (suc j) l h s = never-in e w free j (let k = rest .as-long in omega arith) s
-          apart (suc i) (suc j) l h s = rest .its-own i j (le-of-suc-le-suc l) (le-of-suc-le-suc h) s
+  is-way (n ∷ ns) (e ∷ w) q =
+      let parts = and-parts (serves t e (n .role) && not (elemb e w)) (isWay t ns w) q in
+      let here = and-parts (serves t e (n .role)) (not (elemb e w)) (parts .0) in
+      way-cons t n ns e w (here .0) (never-in e w (not-true (elemb e w) (here .1))) (is-way ns w (parts .1))
 
   way-is : (ns : List Need) (w : List ℕ) → Way t ns w → isWay t ns w ≡ true
   unfolding isWay
   way-is [] [] h = refl
   way-is [] (e ∷ w) h = absurd (let q = h .as-long in omega arith)
   way-is (n ∷ ns) [] h = absurd (let q = h .as-long in omega arith)
-  way-is (n ∷ ns) (e ∷ w) h = rw (h .serving 0 (omega arith), not-in e w own, way-is ns w tail)
-    where
-      own : (i : ℕ) → i < length w → e ≡ getD w i 0 → ⊥
-      own i m = h .its-own 0 (suc i) (omega arith) (let q = h .as-long in omega arith)
-
-      tail : Way t ns w
-      tail = record {
-        as-long = let q = h .as-long in omega arith;
-        serving = λ i m. h .serving (suc i) (omega arith);
-        its-own = λ i j l m. h .its-own (suc i) (suc j) (omega arith) (omega arith);
-      }
+  way-is (n ∷ ns) (e ∷ w) h = rw (way-serves t n ns e w h, not-in e w (way-own t n ns e w h), way-is ns w (way-rest t n ns e w h))
 
 -- ---- there is one first list at the most
 not-both : (v w : List ℕ) → Earlier v w → Earlier w v → ⊥

@@ -13,9 +13,9 @@ use lib.Seq.{drop-cons, getD-take}
 use Rattle.route.specs.declared.Need.{Need}
 use Rattle.route.specs.declared.Routed.{Routed}
 use Rattle.route.specs.declared.LabRoute.{LabRoute}
-use Rattle.route.specs.Table.{Table, needAt, noNeed}
+use Rattle.route.specs.Table.{Table, needAt, noNeed, CLK, ENA, ACLR, SCLR, SLOAD}
 use Rattle.route.specs.Way.{earliestWay}
-use Rattle.route.specs.Route.{entriesFor, eightBytes, labRouteOf}
+use Rattle.route.specs.Route.{entriesFor, byteFor, eightBytes, labRouteOf}
 use Rattle.route.specs.passes.Partial.{routedOf}
 use Rattle.route.proofs.AllWays.{earliest-some, no-needs}
 
@@ -46,6 +46,14 @@ module _ (r count : ℕ) (list : List Need) (w : List ℕ) (i j : ℕ) where
 
     pub other-role : (needAt list i .role ≡ r → ⊥) → getD (onFrom r (take count list) w i) j 255 ≡ getD (onFrom r (take count list) w (i + 1)) j 255
     other-role q = rw (on-step, ne-eqb _ _ q) refl
+
+-- ---- the eight bytes, each by itself
+module _ (ns : List Need) (w : List ℕ) {b₀ b₁ b₂ b₃ b₄ b₅ b₆ b₇ : ℕ} where
+  pub bytes-are : b₀ ≡ byteFor ns w CLK 0 → b₁ ≡ byteFor ns w CLK 1 → b₂ ≡ byteFor ns w ENA 0 → b₃ ≡ byteFor ns w ENA 1 → b₄ ≡ byteFor ns w ACLR 0
+      → b₅ ≡ byteFor ns w ACLR 1 → b₆ ≡ byteFor ns w SCLR 0 → b₇ ≡ byteFor ns w SLOAD 0
+      → b₀ ∷ b₁ ∷ b₂ ∷ b₃ ∷ b₄ ∷ b₅ ∷ b₆ ∷ b₇ ∷ [] ≡ eightBytes ns w
+  unfolding eightBytes
+  bytes-are p₀ p₁ p₂ p₃ p₄ p₅ p₆ p₇ = rw (p₀, p₁, p₂, p₃, p₄, p₅, p₆, p₇) refl
 
 -- ---- the whole way
 entries-pad : (r : ℕ) (ns : List Need) (w pad : List ℕ) → length w ≡ length ns → entriesFor r ns (w ++ pad) ≡ entriesFor r ns w

@@ -44,6 +44,40 @@ free-before taken e x p q = (differs, sym (getD-set-other taken e x true true di
     differs : x ≡ e → ⊥
     differs s = true≢false (sym (getD-set-same taken e true true (free-low taken e p)) ∙ (rw s at q))
 
+-- ---- a way, need by need
+module _ (t : Table) where
+  pub way-nil : Way t [] []
+  way-nil = record { as-long = refl; serving = λ i h. absurd (not-suc-le-zero h); its-own = λ i j l h. absurd (not-suc-le-zero h) }
+
+  -- one need more: an entry that serves it and that no other need has
+  pub way-cons : (n : Need) (ns : List Need) (e : ℕ) (w : List ℕ) → serves t e (n .role) ≡ true → ((i : ℕ) → i < length w → e ≡ getD w i 0 → ⊥)
+      → Way t ns w → Way t (n ∷ ns) (e ∷ w)
+  way-cons n ns e w s own p = record { as-long = ap suc (p .as-long); serving = serve; its-own = apart }
+    where
+      serve : (i : ℕ) → i < length (n ∷ ns) → serves t (getD (e ∷ w) i 0) (needAt (n ∷ ns) i .role) ≡ true
+      serve zero h = s
+      serve (suc i) h = p .serving i (le-of-suc-le-suc h)
+
+      apart : (i j : ℕ) → i < j → j < length (n ∷ ns) → getD (e ∷ w) i 0 ≡ getD (e ∷ w) j 0 → ⊥
+      apart i zero l h q = not-suc-le-zero l
+      apart zero (suc j) l h q = own j (let k = p .as-long in omega arith) q
+      apart (suc i) (suc j) l h q = p .its-own i j (le-of-suc-le-suc l) (le-of-suc-le-suc h) q
+
+  -- what a way says of its first need, and of the others
+  module _ (n : Need) (ns : List Need) (e : ℕ) (w : List ℕ) (p : Way t (n ∷ ns) (e ∷ w)) where
+    pub way-serves : serves t e (n .role) ≡ true
+    way-serves = p .serving 0 (omega arith)
+
+    pub way-own : (i : ℕ) → i < length w → e ≡ getD w i 0 → ⊥
+    way-own i m = p .its-own 0 (suc i) (omega arith) (let q = p .as-long in omega arith)
+
+    pub way-rest : Way t ns w
+    way-rest = record {
+      as-long = let q = p .as-long in omega arith;
+      serving = λ i h. p .serving (suc i) (omega arith);
+      its-own = λ i j l h. p .its-own (suc i) (suc j) (omega arith) (omega arith);
+    }
+
 -- ---- to be given entry by entry is to be a way whose entries are free
 abbrev GivenFrom : Table → List Bool → List Need → List ℕ → Type 0
 GivenFrom t = Given (mayHave t) takenBy (length t)
@@ -52,8 +86,7 @@ abbrev AllFree : List Bool → List ℕ → Type 0
 AllFree taken w = (i : ℕ) → i < length w → Free taken (getD w i 0)
 
 given-way : (t : Table) (ns : List Need) (taken : List Bool) (w : List ℕ) → GivenFrom t taken ns w → Way t ns w × AllFree taken w
-given-way t [] taken [] b =
-    (record { as-long = refl; serving = λ i h. absurd (not-suc-le-zero h); its-own = λ i j l h. absurd (not-suc-le-zero h) }, λ i h. absurd (not-suc-le-zero h))
+given-way t [] taken [] b = (way-nil t, λ i h. absurd (not-suc-le-zero h))
 given-way t [] taken (e ∷ w) b = absurd b
 given-way t (n ∷ ns) taken [] b = absurd b
 given-way t (n ∷ ns) taken (e ∷ w) b = longer (given-way t ns (set taken e true) w (b .2))
@@ -62,19 +95,10 @@ given-way t (n ∷ ns) taken (e ∷ w) b = longer (given-way t ns (set taken e t
     here = free-of (serves t e (n .role)) (getD taken e true) (b .1)
 
     longer : Way t ns w × AllFree (set taken e true) w → Way t (n ∷ ns) (e ∷ w) × AllFree taken (e ∷ w)
-    longer p = (record { as-long = ap suc (p .0 .as-long); serving = serve; its-own = apart }, free)
+    longer p = (way-cons t n ns e w (here .0) (λ i h q. later i h .0 (sym q)) (p .0), free)
       where
         later : (i : ℕ) → i < length w → (getD w i 0 ≡ e → ⊥) × Free taken (getD w i 0)
         later i h = free-before taken e (getD w i 0) (here .1) (p .1 i h)
-
-        serve : (i : ℕ) → i < length (n ∷ ns) → serves t (getD (e ∷ w) i 0) (needAt (n ∷ ns) i .role) ≡ true
-        serve zero h = here .0
-        serve (suc i) h = p .0 .serving i (le-of-suc-le-suc h)
-
-        apart : (i j : ℕ) → i < j → j < length (n ∷ ns) → getD (e ∷ w) i 0 ≡ getD (e ∷ w) j 0 → ⊥
-        apart i zero l h q = not-suc-le-zero l
-        apart zero (suc j) l h q = later j (let k = p .0 .as-long in omega arith) .0 (sym q)
-        apart (suc i) (suc j) l h q = p .0 .its-own i j (le-of-suc-le-suc l) (le-of-suc-le-suc h) q
 
         free : AllFree taken (e ∷ w)
         free zero h = here .1
@@ -87,23 +111,14 @@ way-given t (n ∷ ns) taken [] p f = let q = p .as-long in omega arith
 way-given t (n ∷ ns) taken (e ∷ w) p f = (
   served-low t e (n .role) here,
   rw (here, f 0 (omega arith)) refl,
-  way-given t ns (set taken e true) w tail rest,
+  way-given t ns (set taken e true) w (way-rest t n ns e w p) rest,
 )
   where
     here : serves t e (n .role) ≡ true
-    here = p .serving 0 (omega arith)
-
-    tail : Way t ns w
-    tail = record {
-      as-long = let q = p .as-long in omega arith;
-      serving = λ i h. p .serving (suc i) (omega arith);
-      its-own = λ i j l h. p .its-own (suc i) (suc j) (omega arith) (omega arith);
-    }
+    here = way-serves t n ns e w p
 
     rest : AllFree (set taken e true) w
-    rest i h =
-        getD-set-other taken e (getD w i 0) true true (λ q. p .its-own 0 (suc i) (omega arith) (let k = p .as-long in omega arith) (sym q))
-        ∙ f (suc i) (omega arith)
+    rest i h = getD-set-other taken e (getD w i 0) true true (λ q. way-own t n ns e w p i h (sym q)) ∙ f (suc i) (omega arith)
 
 abbrev none-taken : Table → List Bool
 none-taken t = replicate (length t) false
