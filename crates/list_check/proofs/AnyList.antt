@@ -1,23 +1,20 @@
 -- The list check of any list. A list that passes 18 has the result of a LAB with its cells, whose number and route bytes speak of all ways; 18 asks how
 -- many records there are and whether one is unfit, so their order does not matter there either. Assumes nothing.
-use Prim.Native.Nat.{ℕ, suc, _<_}
+use Prim.Native.Nat.{ℕ, suc}
 use mathlib.Core.Path.{_≡_, refl, sym, ap, _∙_}
 use mathlib.Core.Logic.{_↔_}
-use mathlib.Core.Bool.{Bool, true, false, cond, _||_, true≢false}
-use mathlib.Core.List.{List, [], _∷_, map, List·Permᴰ, List·Permᴰ·nil, List·Permᴰ·cons, List·Permᴰ·swap, List·Permᴰ·trans, Permᴰ·map}
+use mathlib.Core.Bool.{Bool, true, false, cond, _||_}
+use mathlib.Core.List.{List, _∷_, map, List·Permᴰ, List·Permᴰ·nil, List·Permᴰ·cons, List·Permᴰ·swap, List·Permᴰ·trans, Permᴰ·map}
 use native.Mathlib.Omega.{arith}
 use lib.ListN.{length, replicate}
-use lib.Dec.{eqb, ltb}
-use borrow.Author.Tests.{ne-eqb, eq-eqb}
+use lib.Dec.{ltb}
+use borrow.Author.Tests.{ne-eqb}
 use Rattle.sheet.specs.Lists.{anyb}
-use Rattle.sheet.specs.Checks.{firstNumber}
-use Rattle.exercise.specs.declared.Record.{Record}
 use Rattle.sheet.proofs.Laws.{by-test, or-parts}
 use Rattle.route.specs.Table.{Table}
-use Rattle.route.specs.Way.{Way}
 use Rattle.route.specs.Route.{HoldsEarliest}
 use Rattle.lab_rules.specs.declared.LabResult.{LabResult}
-use Rattle.lab_rules.specs.Rules.{labRules, labNumber, routeOf, labResult, needs, noWay}
+use Rattle.lab_rules.specs.Rules.{labNumber, routeOf, labResult, noWay}
 use Rattle.lab_rules.proofs.Routes.{told, stuck, goes, lab-legal, not-18}
 use Rattle.lab_rules.proofs.Order as order
 use Rattle.list_check.specs.declared.CellRecord.{CellRecord}

@@ -1,7 +1,7 @@
 -- Document 01, the check of one LAB on a lent list of its cell records: 18, then 60 to 65 of those cells. `t` is the entry table, `cs` is the list.
 -- Assumes nothing.
 use Prim.Native.Nat.{ℕ, _/_, _%_}
-use mathlib.Core.Bool.{Bool, true, false, cond, not, _&&_, _||_}
+use mathlib.Core.Bool.{Bool, true, false, cond, not, _||_}
 use mathlib.Core.List.{List, [], _∷_, map}
 use lib.ListN.{length, getD, replicate}
 use lib.Dec.{eqb, ltb}
@@ -10,14 +10,11 @@ use Rattle.sheet.specs.Checks.{check, firstNumber}
 use Rattle.exercise.specs.Record.{recordOf}
 use Rattle.exercise.specs.declared.Record.{Record}
 use Rattle.exercise.specs.declared.Record.the-variants.{Combinational, Register, Malformed}
-use Rattle.distinct.specs.passes.Marks.{markAll, readMarks}
 use Rattle.route.specs.Table.{Table}
 use Rattle.lab_rules.specs.declared.LabResult.{LabResult}
 use Rattle.lab_rules.specs.Rules.{labChecks, routeOf}
-use Rattle.lab_rules.specs.passes.Counts.{noCounts, countsWith, refused, resultFrom}
 use Rattle.netlist.specs.Cells.{registerChecks}
 use Rattle.list_check.specs.declared.CellRecord.{CellRecord}
-use Rattle.list_check.specs.declared.ListState.{ListState}
 
 abbrev pub lowByte : ℕ → ℕ
 lowByte s = s % 256

@@ -1,4 +1,4 @@
--- `lab_list::bytes_of` meets its contract: each byte is the one that `bytesOf` names.
+-- `list_check::bytes_of` meets its contract: each byte is the one that `bytesOf` names.
 -- Assumes nothing.
 use Prim.Native.Nat.{ℕ}
 use mathlib.Core.Path.{_≡_, refl}

@@ -1,4 +1,4 @@
--- `lab_list::check_list` meets its contract: a walk of its MIR, by hand. More than 32 records are refused. Otherwise a loop hands each record to
+-- `list_check::check_list` meets its contract: a walk of its MIR, by hand. More than 32 records are refused. Otherwise a loop hands each record to
 -- `take_cell`, and `finish` has the answer. All that the proof knows of the four covered functions is that each meets its contract.
 -- The slice reference is Copy: one copy of what it owns is kept whole for the exit, and of the other the fractured borrow, which each turn looks
 -- into.

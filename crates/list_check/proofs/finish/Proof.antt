@@ -1,4 +1,4 @@
--- `lab_list::finish` meets its contract: each arm by whether all records were fit.
+-- `list_check::finish` meets its contract: each arm by whether all records were fit.
 -- Assumes nothing.
 use borrow.Author.Needs.{needs}
 use Rattle.sheet.proofs.Laws.{compared}

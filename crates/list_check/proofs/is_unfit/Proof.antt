@@ -1,4 +1,4 @@
--- `lab_list::is_unfit` meets its contract: each arm of the match is a case of `unfit`.
+-- `list_check::is_unfit` meets its contract: each arm of the match is a case of `unfit`.
 -- Assumes nothing.
 use borrow.Author.Needs.{needs}
 use Rattle.list_check.specs.ListCheck.{unfit}

@@ -1,4 +1,4 @@
--- `lab_list::record_from` meets its contract: the record's bytes are decoded.
+-- `list_check::record_from` meets its contract: the record's bytes are decoded.
 -- Assumes nothing.
 use borrow.Author.Needs.{needs}
 use Rattle.list_check.specs.ListCheck.{recordFrom}

@@ -1,4 +1,4 @@
--- `lab_list::start` meets its contract: nothing is counted and no net is marked.
+-- `list_check::start` meets its contract: nothing is counted and no net is marked.
 -- Assumes nothing.
 use borrow.Author.Needs.{needs}
 use Rattle.list_check.specs.passes.State.{noState}

@@ -1,4 +1,4 @@
--- `lab_list::take_cell` meets its contract: the fitness, the counts and the marks take the decoded record.
+-- `list_check::take_cell` meets its contract: the fitness, the counts and the marks take the decoded record.
 -- Assumes nothing.
 use borrow.Author.Needs.{needs}
 use Rattle.list_check.specs.passes.State.{stateWith}
