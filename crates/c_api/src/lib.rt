@@ -9,6 +9,7 @@ ghost use mathlib.Core.Path.{_≡_};
 ghost use mathlib.Core.Bool.{cond};
 ghost use lib.ListN.{length};
 ghost use Rattle.route.specs.Table.{houseBoard};
+ghost use Rattle.judge.specs.Call.{call};
 ghost use Rattle.judge.specs.Judge.{judged, routed};
 ghost use Rattle.exercise.specs.Exercise.{exerciseNumber};
 ghost use Rattle.exercise.specs.Record.{combinationalValues, registerValues};
@@ -57,8 +58,8 @@ pub extern "C" fn nurimkkot_judge(
     route: &mut [u8],
     numbers: &mut [u64; 7],
 )
-    ensures routes { λ _. ⌜ now (route .exit) ≡ routed houseBoard (now (exercise .entry)) (now (answer .entry)) (now (route .entry)) ⌝ }
-    ensures told { λ _. ⌜ now (numbers .exit) ≡ sevenNumbers (judged houseBoard (now (exercise .entry)) (now (answer .entry)) (length (now (route .entry)))) ⌝ }
+    ensures routes { λ _. ⌜ now (route .exit) ≡ routed (call houseBoard (now (exercise .entry)) (now (answer .entry)) (length (now (route .entry)))) (now (route .entry)) ⌝ }
+    ensures told { λ _. ⌜ now (numbers .exit) ≡ sevenNumbers (judged (call houseBoard (now (exercise .entry)) (now (answer .entry)) (length (now (route .entry))))) ⌝ }
 {
     let v = judge::judge_on(route::house_board(), exercise, answer, route);
     let culprit = v.culprit;

@@ -30,10 +30,11 @@ use Rattle.lab_pass.specs.Members.{members}
 use Rattle.sheet.specs.Checks.{NONE}
 use Rattle.judge.specs.declared.Fault.{Fault}
 use Rattle.judge.specs.declared.Fault.the-variants as fault
-use Rattle.judge.specs.declared.Fault.the-variants.{Call, ExerciseHead, AnswerHead, Place, Lab}
+use Rattle.judge.specs.declared.Fault.the-variants.{ExerciseHead, AnswerHead, Place, Lab}
 use Rattle.judge.specs.declared.Finding.{Finding}
 use Rattle.judge.specs.Numbers.{faultOf}
-use Rattle.judge.specs.Judge.{Check, finding, legal, ofCell, ofLab, perCell, carryNotNext, labCells, roomChecks, exerciseGroup, answerGroup, cellGroup, placeGroup, labGroup, checksTo51, checks, firstBroken, firstOr, lowestIn, culpritAt, culpritOf, verdictOf, judged}
+use Rattle.judge.specs.Call.{Call}
+use Rattle.judge.specs.Judge.{Check, finding, legal, ofCell, ofLab, perCell, carryNotNext, labCells, roomChecks, exerciseGroup, answerGroup, cellGroup, placeGroup, labGroup, sheetChecks, checksTo51, checks, firstBroken, firstOr, lowestIn, culpritAt, culpritOf, verdictOf, judged}
 use Rattle.judge.specs.Demands.{AllHold, LowestCell}
 use Rattle.judge.specs.Culprit.{Inside, CulpritLaw}
 use Rattle.judge.proofs.Broken.{found, run-finds}
@@ -84,31 +85,39 @@ first-in p (suc k) i =
     }))
     (first-in p k (suc i))))
 
-lowest-cell : (e a : List ℕ) (l : ℕ) → (members a (cellCount e) l ≡ []) ⊎ LowestCell e a l (lowestIn a (cellCount e) l)
+lowest-cell : (c : Call) (l : ℕ)
+    → let n = cellCount (c .exercise) in (members (c .answer) n l ≡ []) ⊎ LowestCell c l (lowestIn (c .answer) n l)
 unfolding members lowestIn
-lowest-cell e a l =
+lowest-cell c l =
+    let a = c .answer in
     ⊎-elim (λ q. inl q)
     (λ f. inr (record {
       is-cell = omega (arith, f .low);
       stands = eqb-true _ l (f .passes);
       none-lower = λ j m. eqb-false (labAt a j) l (f .none-before j (omega arith) m);
     }))
-    (first-in (λ i. eqb (labAt a i) l) (cellCount e) 0)
+    (first-in (λ i. eqb (labAt a i) l) (cellCount (c .exercise)) 0)
 
 -- a LAB with no cells breaks no rule
 empty-holds : (t : Table) (l : ℕ) → firstBroken (ofLab l (labChecks t [])) ≡ legal
 unfolding tooManyClocks tooManyPairs tooManyClears tooManySynchronous tooManyNets noWay rules.needs netsIn inLab earliestWay ways entryLists isWay
 empty-holds t l = refl
 
-module _ (e a : List ℕ) where
+module _ (c : Call) where
+  abbrev e : List ℕ
+  e = c .exercise
+
+  abbrev a : List ℕ
+  a = c .answer
+
   -- what the checks before it say of a finding, by its fault: its sheet is long enough, and its cell is one of the exercise's
   abbrev pub FineAt : Finding → Fault → Type 0
-  FineAt f Call = Unit {0}
+  FineAt f fault.Call = Unit {0}
   FineAt f ExerciseHead = Unit {0}
   FineAt f fault.Record = (f .cell < cellCount e) × (length e ≡ recordStart (cellCount e))
   FineAt f AnswerHead = Unit {0}
   FineAt f Place = (f .cell < cellCount e) × (length a ≡ placeStart (cellCount e))
-  FineAt f Lab = LowestCell e a (f .lab) (lowestIn a (cellCount e) (f .lab)) × (length a ≡ placeStart (cellCount e))
+  FineAt f Lab = LowestCell c (f .lab) (lowestIn a (cellCount e) (f .lab)) × (length a ≡ placeStart (cellCount e))
 
   -- of one finding, and of those of all checks of a list
   abbrev pub Fine : Finding → Type 0
@@ -128,9 +137,9 @@ module _ (e a : List ℕ) where
 
   -- ---- the groups of checks
   -- 1
-  room-fine : (r : ℕ) → Fine (firstBroken (roomChecks r))
+  room-fine : Fine (firstBroken (roomChecks (c .room)))
   unfolding roomChecks AllFine faultOf
-  room-fine r = found-fine (roomChecks r) (search needs)
+  room-fine = found-fine (roomChecks (c .room)) (search needs)
 
   -- 10 to 14
   exercise-head-fine : Fine (firstBroken (exerciseHead e))
@@ -153,10 +162,10 @@ module _ (e a : List ℕ) where
         (λ _. run Fine legal-fine 16 (doubleDriver e) (cellCount e) (λ i m. search needs))
 
     -- 30 to 44
-    of-kind-fine : (i : ℕ) → i < cellCount e → (c : Record) → AllFine (ofCell i (checksOf e i c))
+    of-kind-fine : (i : ℕ) → i < cellCount e → (k : Record) → AllFine (ofCell i (checksOf e i k))
     unfolding AllFine faultOf
-    of-kind-fine i m (Combinational c) = search needs
-    of-kind-fine i m (Register r) = search needs
+    of-kind-fine i m (Combinational k) = search needs
+    of-kind-fine i m (Register k) = search needs
     of-kind-fine i m Malformed = tt
 
     cells-fine : Fine (firstBroken (cellGroup e))
@@ -181,19 +190,19 @@ module _ (e a : List ℕ) where
           (λ _. run Fine legal-fine 51 (carryNotNext e a) (cellCount e) (λ i m. search needs))
 
       -- 60 to 65: a LAB with a cell, and one with none
-      rules-fine : (t : Table) (l : ℕ) → LowestCell e a l (lowestIn a (cellCount e) l) → AllFine (ofLab l (labChecks t (labCells e a l)))
+      rules-fine : (l : ℕ) → LowestCell c l (lowestIn a (cellCount e) l) → AllFine (ofLab l (labChecks (c .table) (labCells c l)))
       unfolding AllFine faultOf
-      rules-fine t l m = search needs
+      rules-fine l m = search needs
 
-      empty-fine : (t : Table) (l : ℕ) → members a (cellCount e) l ≡ [] → Fine (firstBroken (ofLab l (labChecks t (labCells e a l))))
+      empty-fine : (l : ℕ) → members a (cellCount e) l ≡ [] → Fine (firstBroken (ofLab l (labChecks (c .table) (labCells c l))))
       unfolding labCells
-      empty-fine t l q = rw (q, empty-holds t l) legal-fine
+      empty-fine l q = rw (q, empty-holds (c .table) l) legal-fine
 
-      labs-fine : (t : Table) → Fine (firstBroken (labGroup t e a))
+      labs-fine : Fine (firstBroken (labGroup c))
       unfolding labGroup
-      labs-fine t =
-          each Fine legal-fine (λ l. ofLab l (labChecks t (labCells e a l))) 1024
-          (λ l _. ⊎-elim (λ q. empty-fine t l q) (λ m. found-fine _ (rules-fine t l m)) (lowest-cell e a l))
+      labs-fine =
+          each Fine legal-fine (λ l. ofLab l (labChecks (c .table) (labCells c l))) 1024
+          (λ l _. ⊎-elim (λ q. empty-fine l q) (λ m. found-fine _ (rules-fine l m)) (lowest-cell c l))
 
   -- ---- the groups in turn
   long-exercise : AllHold (exerciseGroup e) → length e ≡ recordStart (cellCount e)
@@ -210,24 +219,24 @@ module _ (e a : List ℕ) where
   unfolding answerGroup
   answer-fine long = turn Fine (answerHead e a) (rangeRun e a) answer-head-fine (λ h. ranges-fine long (answer-length e a h))
 
-  to-51-fine : (r : ℕ) → Fine (firstBroken (checksTo51 e a r))
-  unfolding checksTo51
-  to-51-fine r =
-      turn Fine (roomChecks r) (exerciseGroup e ++ (answerGroup e a ++ (cellGroup e ++ placeGroup e a))) (room-fine r)
+  to-51-fine : Fine (firstBroken (checksTo51 c))
+  unfolding checksTo51 sheetChecks
+  to-51-fine =
+      turn Fine (roomChecks (c .room)) (exerciseGroup e ++ (answerGroup e a ++ (cellGroup e ++ placeGroup e a))) room-fine
       (λ _. turn Fine (exerciseGroup e) (answerGroup e a ++ (cellGroup e ++ placeGroup e a)) exercise-fine
       (λ x. turn Fine (answerGroup e a) (cellGroup e ++ placeGroup e a) (answer-fine (long-exercise x))
       (λ y. turn Fine (cellGroup e) (placeGroup e a) (cells-fine (long-exercise x)) (λ _. places-fine (long-exercise x) (long-answer y)))))
 
-  pub all-fine : (t : Table) (r : ℕ) → Fine (firstBroken (checks t e a r))
+  pub all-fine : Fine (firstBroken (checks c))
   unfolding checks
-  all-fine t r =
-      turn Fine (checksTo51 e a r) (labGroup t e a) (to-51-fine r)
-      (λ h. let g = held-groups e a r h in labs-fine (long-exercise (g .exercise)) (long-answer (g .answer)) t)
+  all-fine =
+      turn Fine (checksTo51 c) (labGroup c) to-51-fine
+      (λ h. let g = held-groups c h in labs-fine (long-exercise (g .exercise)) (long-answer (g .answer)))
 
   -- ---- such a finding's culprit ends where its sheet does, or before
   inside-at : (f : Finding) (k : Fault) → FineAt f k → Inside e a (culpritAt e a f k)
   unfolding Inside
-  inside-at f Call h = omega arith
+  inside-at f fault.Call h = omega arith
   inside-at f ExerciseHead h = omega arith
   inside-at f fault.Record h = omega arith
   inside-at f AnswerHead h = omega arith
@@ -236,4 +245,4 @@ module _ (e a : List ℕ) where
 
 pub culprit-inside : CulpritLaw
 unfolding CulpritLaw judged verdictOf culpritOf
-culprit-inside t e a r = let f = firstBroken (checks t e a r) in inside-at e a f (faultOf (f .number)) (all-fine e a t r)
+culprit-inside c = let f = firstBroken (checks c) in inside-at c f (faultOf (f .number)) (all-fine c)

@@ -3,12 +3,10 @@
 use Prim.Native.Nat.{ℕ}
 use mathlib.Core.Path.{_≡_, refl}
 use mathlib.Core.Bool.{true}
-use mathlib.Core.List.{List}
-use lib.ListN.{length}
 use borrow.Author.Tests.{ne-eqb}
 use Rattle.sheet.specs.Lists.{elemb}
-use Rattle.route.specs.Table.{Table}
 use Rattle.judge.specs.Numbers.{refusalNumbers}
+use Rattle.judge.specs.Call.{Call}
 use Rattle.judge.specs.Judge.{apprenticeOf, checks, judged, routed, verdictOf}
 use Rattle.judge.specs.Demands.{Demand1, numbers}
 use Rattle.judge.proofs.Broken.{found}
@@ -19,17 +17,17 @@ use Rattle.judge.proofs.NamesCulprit.{names-culprit}
 in-table : (n : ℕ) → elemb n refusalNumbers ≡ true → elemb n numbers ≡ true
 in-table n m = all-give (λ n. elemb n numbers) true refusalNumbers refl n m
 
-one-number : (t : Table) (e a : List ℕ) (r : ℕ) → elemb (judged t e a r .number) numbers ≡ true
+one-number : (c : Call) → elemb (judged c .number) numbers ≡ true
 unfolding judged verdictOf
-one-number t e a r =
-    found (λ f. elemb (f .number) numbers ≡ true) refl (checks t e a r)
-    (every-weaker (In refusalNumbers) _ (λ k h. in-table (k .finding .number) h) (checks t e a r) (all-known t e a r))
+one-number c =
+    found (λ f. elemb (f .number) numbers ≡ true) refl (checks c)
+    (every-weaker (In refusalNumbers) _ (λ k h. in-table (k .finding .number) h) (checks c) (all-known c))
 
-pub demand1 : (t : Table) → Demand1 t
+pub demand1 : Demand1
 unfolding judged verdictOf routed apprenticeOf
-demand1 t = record {
-  one-number = one-number t;
-  names-culprit = names-culprit t;
-  untouched = λ e a before h. rw (ne-eqb (judged t e a (length before) .number) 0 h);
-  apprentice-only = λ e a r. refl;
+demand1 = record {
+  one-number = one-number;
+  names-culprit = names-culprit;
+  untouched = λ c before h. rw (ne-eqb (judged c .number) 0 h);
+  apprentice-only = λ c. refl;
 }

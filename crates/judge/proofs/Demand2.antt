@@ -3,7 +3,6 @@ use mathlib.Core.Path.{_≡_, refl, ap, _∙_}
 use mathlib.Core.Logic.{_⊎_, inl, inr, ⊎-elim}
 use mathlib.Core.List.{List, [], _∷_}
 use Rattle.sheet.proofs.Laws.{by-test}
-use Rattle.route.specs.Table.{Table}
 use Rattle.judge.specs.declared.Finding.{Finding}
 use Rattle.judge.specs.Judge.{Check, checks, firstBroken, judged, verdictOf}
 use Rattle.judge.specs.Demands.{AllHold, FirstBroken, Demand2}
@@ -23,13 +22,13 @@ all-or-first (k ∷ ks) =
     inr (w .0, record { before = k ∷ f .before; after = f .after; stands = rw (f .stands); hold = (b, f .hold); broken = f .broken }))
     (all-or-first ks))
 
-pub demand2 : (t : Table) → Demand2 t
+pub demand2 : Demand2
 unfolding judged verdictOf
-demand2 t = record {
-  legal-exactly = λ e a r. (
-    legal-hold (checks t e a r) (all-numbered t e a r),
-    λ h. ap (λ (f : Finding). f .number) (hold-legal (checks t e a r) h),
+demand2 = record {
+  legal-exactly = λ c. (
+    legal-hold (checks c) (all-numbered c),
+    λ h. ap (λ (f : Finding). f .number) (hold-legal (checks c) h),
   );
-  else-the-first = λ e a r k f. ap (verdictOf e a) (first-finds k (checks t e a r) f);
-  one-or-other = λ e a r. all-or-first (checks t e a r);
+  else-the-first = λ c k f. ap (verdictOf (c .exercise) (c .answer)) (first-finds k (checks c) f);
+  one-or-other = λ c. all-or-first (checks c);
 }

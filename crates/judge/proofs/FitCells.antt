@@ -8,7 +8,7 @@ use native.Mathlib.Omega.{arith}
 use lib.Dec.{eqb}
 use borrow.Author.Needs.{needs}
 use borrow.Author.Tests.{eqb-true, leb-false, not-false}
-use Rattle.sheet.specs.Lists.{Every, filterb, elemb, from}
+use Rattle.sheet.specs.Lists.{filterb, elemb, from}
 use Rattle.sheet.specs.Checks.{firstNumber}
 use Rattle.sheet.specs.Signal.{connected, isNet, isBad, isBadOutput}
 use Rattle.exercise.specs.Exercise.{netCount, cellCount, recordPart}
@@ -24,6 +24,7 @@ use Rattle.tables.specs.Records.{cell, allInputs}
 use Rattle.netlist.specs.Cells.{registerChecks, cellChecks}
 use Rattle.placing.specs.Places.{labAt}
 use Rattle.lab_pass.specs.Members.{members}
+use Rattle.judge.specs.Call.{Call}
 use Rattle.judge.specs.Judge.{labCells}
 use Rattle.judge.proofs.Broken.{held-number}
 use Rattle.judge.proofs.Numbers.{elem-more}
@@ -64,6 +65,9 @@ fit-from e p i (suc k) h =
     let rest = fit-from e p (suc i) k (λ j l. h j (omega arith)) in
     by-test (p i) (λ t. rw t (h i (omega arith), rest)) (λ t. rw t rest)
 
-pub lab-fit : (e a : List ℕ) → netCount e ≤ 1024 → ((i : ℕ) → i < cellCount e → firstNumber (cellChecks e i) ≡ 0) → (l : ℕ) → AllFit (labCells e a l)
+pub lab-fit : (c : Call) → netCount (c .exercise) ≤ 1024 → ((i : ℕ) → i < cellCount (c .exercise) → firstNumber (cellChecks (c .exercise) i) ≡ 0)
+    → (l : ℕ) → AllFit (labCells c l)
 unfolding labCells members
-lab-fit e a few h l = fit-from e (λ i. eqb (labAt a i) l) 0 (cellCount e) (λ j m. cell-fit e j few (h j (omega arith)))
+lab-fit c few h l =
+    let e = c .exercise in
+    fit-from e (λ i. eqb (labAt (c .answer) i) l) 0 (cellCount e) (λ j m. cell-fit e j few (h j (omega arith)))

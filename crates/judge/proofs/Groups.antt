@@ -16,7 +16,7 @@ use Rattle.netlist.specs.Cells.{cellChecks, cellNumber}
 use Rattle.placing.specs.Places.{outOfRangeAt, placeTaken}
 use Rattle.sheet.specs.Checks.{NONE}
 use Rattle.judge.specs.declared.Finding.{Finding}
-use Rattle.judge.specs.Judge.{Check, finding, check, ofSheet, perCell, carryNotNext, roomChecks, exerciseGroup, answerGroup, cellGroup, placeGroup, checksTo51, firstBroken}
+use Rattle.judge.specs.Judge.{Check, finding, check, ofSheet, perCell, carryNotNext, roomChecks, exerciseGroup, answerGroup, cellGroup, placeGroup, sheetChecks, firstBroken}
 use Rattle.judge.specs.Numbers.{numbersTo51}
 use Rattle.judge.specs.passes.Stages.{numberedAs, numbered, atCell}
 use borrow.Author.Needs.{needs}
@@ -115,9 +115,9 @@ unfolding cellGroup
 cells-places-find e a = in-turn (cellGroup e) (placeGroup e a) (cells-known e)
 
 -- 1 to 51
-pub to-51-finds : (e a : List ℕ) (r : ℕ) → firstBroken (checksTo51 e a r)
+pub to-51-finds : (e a : List ℕ) (r : ℕ) → firstBroken (roomChecks r ++ sheetChecks e a)
     ≡ cond (not (eqb r 8192)) (finding 1 NONE NONE)
     (then (firstBroken (exerciseGroup e)) (then (firstBroken (answerGroup e a)) (firstBroken (cellGroup e ++ placeGroup e a))))
-unfolding checksTo51 roomChecks
+unfolding sheetChecks roomChecks
 to-51-finds e a r =
     rw (in-turn (exerciseGroup e) (answerGroup e a ++ (cellGroup e ++ placeGroup e a)) (group-known e), in-turn (answerGroup e a) (cellGroup e ++ placeGroup e a) (answer-known e a))

@@ -9,9 +9,9 @@ use native.Mathlib.Nat.{eq-or-lt-of-le}
 use native.Mathlib.Omega.{arith}
 use Rattle.sheet.specs.Lists.{concatMap, from, below}
 use Rattle.sheet.specs.Checks as sheet
-use Rattle.route.specs.Table.{Table}
 use Rattle.lab_rules.specs.Rules.{labChecks}
-use Rattle.judge.specs.Judge.{Check, perCell, ofCell, ofLab, labCells, roomChecks, exerciseGroup, answerGroup, cellGroup, placeGroup, labGroup, checksTo51, checks, verdictOf, judged}
+use Rattle.judge.specs.Call.{Call}
+use Rattle.judge.specs.Judge.{Check, perCell, ofCell, ofLab, labCells, roomChecks, exerciseGroup, answerGroup, cellGroup, placeGroup, labGroup, sheetChecks, checksTo51, checks, verdictOf, judged}
 use Rattle.judge.specs.Demands.{AllHold}
 use Rattle.judge.proofs.Broken as broken
 use Rattle.judge.proofs.Broken.{hold-append}
@@ -38,34 +38,36 @@ hold-number i [] h = refl
 hold-number i (k ∷ ks) h = rw (h .0) (hold-number i ks (h .1))
 
 -- ---- the groups of checks 1 to 51
-pub record HeldGroups (e a : List ℕ) : Type 0 where
-  pub exercise : AllHold (exerciseGroup e)
-  pub answer : AllHold (answerGroup e a)
-  pub cells : AllHold (cellGroup e)
-  pub places : AllHold (placeGroup e a)
+pub record HeldGroups (c : Call) : Type 0 where
+  pub exercise : AllHold (exerciseGroup (c .exercise))
+  pub answer : AllHold (answerGroup (c .exercise) (c .answer))
+  pub cells : AllHold (cellGroup (c .exercise))
+  pub places : AllHold (placeGroup (c .exercise) (c .answer))
 
-pub held-groups : (e a : List ℕ) (r : ℕ) → AllHold (checksTo51 e a r) → HeldGroups e a
-unfolding checksTo51
-held-groups e a r h =
-    let after-room = hold-append (roomChecks r) _ h .1 in
+pub held-groups : (c : Call) → AllHold (checksTo51 c) → HeldGroups c
+unfolding checksTo51 sheetChecks
+held-groups c h =
+    let e = c .exercise in
+    let a = c .answer in
+    let after-room = hold-append (roomChecks (c .room)) (exerciseGroup e ++ (answerGroup e a ++ (cellGroup e ++ placeGroup e a))) h .1 in
     let exercise = hold-append (exerciseGroup e) (answerGroup e a ++ (cellGroup e ++ placeGroup e a)) after-room in
     let answer = hold-append (answerGroup e a) (cellGroup e ++ placeGroup e a) (exercise .1) in
     let cells = hold-append (cellGroup e) (placeGroup e a) (answer .1) in
     record { exercise = exercise .0; answer = answer .0; cells = cells .0; places = cells .1 }
 
 -- ---- a legal verdict
-module _ (t : Table) (e a : List ℕ) (r : ℕ) (legal : judged t e a r .number ≡ 0) where
-  pub legal-hold : AllHold (checks t e a r)
+module _ (c : Call) (legal : judged c .number ≡ 0) where
+  pub legal-hold : AllHold (checks c)
   unfolding judged verdictOf
-  legal-hold = broken.legal-hold (checks t e a r) (all-numbered t e a r) legal
+  legal-hold = broken.legal-hold (checks c) (all-numbered c) legal
 
-  parts : AllHold (checksTo51 e a r) × AllHold (labGroup t e a)
+  parts : AllHold (checksTo51 c) × AllHold (labGroup c)
   unfolding checks
-  parts = hold-append (checksTo51 e a r) (labGroup t e a) legal-hold
+  parts = hold-append (checksTo51 c) (labGroup c) legal-hold
 
-  pub to-51-holds : AllHold (checksTo51 e a r)
+  pub to-51-holds : AllHold (checksTo51 c)
   to-51-holds = parts .0
 
-  pub lab-holds : (l : ℕ) → l < 1024 → AllHold (ofLab l (labChecks t (labCells e a l)))
+  pub lab-holds : (l : ℕ) → l < 1024 → AllHold (ofLab l (labChecks (c .table) (labCells c l)))
   unfolding labGroup
-  lab-holds l h = hold-each (λ l. ofLab l (labChecks t (labCells e a l))) 1024 (parts .1) l h
+  lab-holds l h = hold-each (λ l. ofLab l (labChecks (c .table) (labCells c l))) 1024 (parts .1) l h

@@ -16,6 +16,7 @@ use Rattle.sheet.proofs.Laws.{or-parts}
 use Rattle.tables.specs.Records.{cell, malformed}
 use Rattle.netlist.specs.Cells.{cellChecks}
 use Rattle.placing.specs.Places.{outOfRangeAt, placeTaken}
+use Rattle.judge.specs.Call.{Call}
 use Rattle.judge.specs.Judge.{ofCell, exerciseGroup, answerGroup, cellGroup, placeGroup, checksTo51}
 use Rattle.judge.specs.Demands.{AllHold}
 use Rattle.judge.proofs.Broken.{held, hold-append}
@@ -52,9 +53,15 @@ pub record Kept (e a : List ℕ) : Type 0 where
   pub keeps : (i : ℕ) → i < cellCount e → firstNumber (cellChecks e i) ≡ 0
   pub alone : (i : ℕ) → i < cellCount e → placeTaken e a i ≡ false
 
-module _ (e a : List ℕ) (r : ℕ) (holds : AllHold (checksTo51 e a r)) where
-  groups : HeldGroups e a
-  groups = held-groups e a r holds
+module _ (c : Call) (holds : AllHold (checksTo51 c)) where
+  abbrev e : List ℕ
+  e = c .exercise
+
+  abbrev a : List ℕ
+  a = c .answer
+
+  groups : HeldGroups c
+  groups = held-groups c holds
 
   few-nets : netCount e ≤ 1024
   unfolding exerciseGroup overLimit

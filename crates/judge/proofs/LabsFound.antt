@@ -7,7 +7,7 @@ use mathlib.Core.List.{List, map}
 use lib.ListN.{length, getD, replicate}
 use lib.Dec.{eqb}
 use borrow.Author.Tests.{eq-eqb}
-use Rattle.sheet.specs.Lists.{concatMap, filterb, from, below}
+use Rattle.sheet.specs.Lists.{concatMap, filterb, from}
 use Rattle.exercise.specs.Exercise.{cellCount}
 use Rattle.exercise.specs.passes.Known.{knownAt}
 use Rattle.exercise.specs.declared.Record.{Record}
@@ -26,7 +26,8 @@ use Rattle.lab_pass.proofs.Labs.{result-is-lab}
 use Rattle.lab_pass.proofs.Passing.{none-in}
 use Rattle.lab_pass.proofs.Rows.{rows-put, bytes-eight}
 use Rattle.sheet.specs.Checks.{NONE}
-use Rattle.judge.specs.Judge.{finding, labCells, labGroup, firstBroken}
+use Rattle.judge.specs.Call.{Call}
+use Rattle.judge.specs.Judge.{finding, labCells, labGroup, routeBytes, firstBroken}
 use Rattle.judge.specs.passes.Stages.{numberedAs, numberedLab}
 use Rattle.judge.proofs.Broken.{labs-find}
 use Rattle.judge.proofs.Numbers.{lab-numbered}
@@ -34,9 +35,9 @@ use Rattle.judge.proofs.Numbering.{numbered-same, numbered-none}
 use Rattle.judge.proofs.Sound.{Sound}
 
 -- 60 to 65
-pub labs-finds : (t : Table) (e a : List ℕ) → firstBroken (labGroup t e a) ≡ numberedLab (λ l. labNumber t (labCells e a l))
+pub labs-finds : (c : Call) → firstBroken (labGroup c) ≡ numberedLab (λ l. labNumber (c .table) (labCells c l))
 unfolding labGroup numberedAs labNumber
-labs-finds t e a = labs-find (λ l. labChecks t (labCells e a l)) 1024 (λ l. lab-numbered t (labCells e a l))
+labs-finds c = labs-find (λ l. labChecks (c .table) (labCells c l)) 1024 (λ l. lab-numbered (c .table) (labCells c l))
 
 -- two ways of reading the cells that agree give the same cells
 map-same : (f g : ℕ → Record) (p : ℕ → Bool) (i k : ℕ) → ((j : ℕ) → j < i + k → f j ≡ g j) → map f (filterb p (from i k)) ≡ map g (filterb p (from i k))
@@ -49,33 +50,42 @@ map-same f g p i (suc k) h =
 abbrev pub linked : List ℕ → ℕ → Links
 linked a n = linkBelow a (record { first = replicate 1024 NONE; next = replicate 512 NONE }) n
 
-module _ (t : Table) (e a : List ℕ) (s : Sound e) (fits : (l : ℕ) → AllFit (labCells e a l)) where
+module _ (c : Call) (s : Sound (c .exercise)) (fits : (l : ℕ) → AllFit (labCells c l)) where
+  abbrev t : Table
+  t = c .table
+
+  abbrev e : List ℕ
+  e = c .exercise
+
+  abbrev a : List ℕ
+  a = c .answer
+
   abbrev resultOfLab : ℕ → LabResult
   resultOfLab l = resultAt t (knownAt e) (linked a (cellCount e) .first) (linked a (cellCount e) .next) l
 
-  members-known : (l : ℕ) → map (knownAt e) (members a (cellCount e) l) ≡ labCells e a l
+  members-known : (l : ℕ) → map (knownAt e) (members a (cellCount e) l) ≡ labCells c l
   unfolding labCells members
   members-known l = map-same (knownAt e) (cell e) (λ i. eqb (labAt a i) l) 0 (cellCount e) (λ i b. s .known i (omega arith))
 
-  pub result-at : (l : ℕ) → l < 1024 → resultOfLab l ≡ labResult t (labCells e a l)
+  pub result-at : (l : ℕ) → l < 1024 → resultOfLab l ≡ labResult t (labCells c l)
   unfolding resultAt
   result-at l h =
       rw (walk-members a (cellCount e) l (s .cells) h)
       (result-is-lab t (knownAt e) (members a (cellCount e) l) (rw (members-known l) (fits l)) ∙ ap (labResult t) (members-known l))
 
   -- 60 to 65
-  pub labs-are : numberedLab (λ l. resultOfLab l .number) ≡ firstBroken (labGroup t e a)
+  pub labs-are : numberedLab (λ l. resultOfLab l .number) ≡ firstBroken (labGroup c)
   unfolding labResult
-  labs-are = numbered-same _ _ (λ l. labNumber t (labCells e a l)) 1024 (λ l h. ap (λ (r : LabResult). r .number) (result-at l h)) ∙ sym (labs-finds t e a)
+  labs-are = numbered-same _ _ (λ l. labNumber t (labCells c l)) 1024 (λ l h. ap (λ (r : LabResult). r .number) (result-at l h)) ∙ sym (labs-finds c)
 
   -- the route bytes, where no LAB is broken
-  module _ (held : firstBroken (labGroup t e a) .number ≡ 0) where
-    none-broken : (l : ℕ) → l < 1024 → labNumber t (labCells e a l) ≡ 0
-    none-broken l h = numbered-none (λ number lab. finding number NONE lab) (λ m i. refl) (λ k. labNumber t (labCells e a k)) 1024 (rw labs-finds at held) l h
+  module _ (held : firstBroken (labGroup c) .number ≡ 0) where
+    none-broken : (l : ℕ) → l < 1024 → labNumber t (labCells c l) ≡ 0
+    none-broken l h = numbered-none (λ number lab. finding number NONE lab) (λ m i. refl) (λ k. labNumber t (labCells c k)) 1024 (rw labs-finds at held) l h
 
-    bytes-are : (l : ℕ) → l < 1024 → resultOfLab l .bytes ≡ routeOf t (labCells e a l)
+    bytes-are : (l : ℕ) → l < 1024 → resultOfLab l .bytes ≡ routeOf t (labCells c l)
     unfolding labResult
-    bytes-are l h = ap (λ (r : LabResult). r .bytes) (result-at l h) ∙ rw (eq-eqb (labNumber t (labCells e a l)) 0 (none-broken l h))
+    bytes-are l h = ap (λ (r : LabResult). r .bytes) (result-at l h) ∙ rw (eq-eqb (labNumber t (labCells c l)) 0 (none-broken l h))
 
     rows-same : (g h : ℕ → List ℕ) (i k : ℕ) → ((l : ℕ) → l < i + k → g l ≡ h l) → concatMap g (from i k) ≡ concatMap h (from i k)
     rows-same g h i zero q = refl
@@ -93,7 +103,8 @@ module _ (t : Table) (e a : List ℕ) (s : Sound e) (fits : (l : ℕ) → AllFit
     none-routed l h = ap (λ (r : LabResult). r .bytes) (none-in t (knownAt e) (linked a (cellCount e) .first) (linked a (cellCount e) .next) l h)
 
     pub routes-are : (rows : List ℕ) → ((j : ℕ) → j < length rows → getD rows j 0 ≡ 255) → length rows ≡ 8192
-        → putRows inUse (λ l. resultOfLab l .bytes) rows 1024 ≡ concatMap (λ l. routeOf t (labCells e a l)) (below 1024)
+        → putRows inUse (λ l. resultOfLab l .bytes) rows 1024 ≡ routeBytes c
+    unfolding routeBytes
     routes-are rows blank z =
         rows-put inUse (λ l. resultOfLab l .bytes) rows blank 1024 z (λ l h. none-routed l) (λ l h. eight l)
-        ∙ rows-same (λ l. resultOfLab l .bytes) (λ l. routeOf t (labCells e a l)) 0 1024 (λ l h. bytes-are l (omega arith))
+        ∙ rows-same (λ l. resultOfLab l .bytes) (λ l. routeOf t (labCells c l)) 0 1024 (λ l h. bytes-are l (omega arith))

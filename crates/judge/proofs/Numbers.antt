@@ -16,7 +16,8 @@ use Rattle.route.specs.Table.{Table}
 use Rattle.lab_rules.specs.Rules.{labRules, labChecks}
 use Rattle.tables.specs.Records.{cell, cellNumbers}
 use Rattle.netlist.specs.Cells.{checksOf, cellChecks}
-use Rattle.judge.specs.Judge.{Check, cellCheck, perCell, ofSheet, ofCell, ofLab, labCells, roomChecks, exerciseGroup, answerGroup, cellGroup, placeGroup, labGroup, checksTo51, checks, firstBroken}
+use Rattle.judge.specs.Call.{Call}
+use Rattle.judge.specs.Judge.{Check, cellCheck, perCell, ofSheet, ofCell, ofLab, labCells, roomChecks, exerciseGroup, answerGroup, cellGroup, placeGroup, labGroup, sheetChecks, checksTo51, checks, firstBroken}
 use Rattle.judge.specs.Numbers.{numbersTo51, labNumbers, refusalNumbers}
 use Rattle.judge.specs.Demands.{AllHold}
 use Rattle.judge.proofs.Broken.{Numbered, NumberedIn}
@@ -119,19 +120,19 @@ lab-numbered t cs = search needs
 -- ---- all checks
 ruleset parts = (every-append, run-known, room-known, exercise-known, answer-known, cells-known, needs)
 
-pub to-51-known : (e a : List ℕ) (r : ℕ) → Every To51 (checksTo51 e a r)
-unfolding checksTo51 exerciseGroup placeGroup
-to-51-known e a r = search parts depth 20
+pub to-51-known : (c : Call) → Every To51 (checksTo51 c)
+unfolding checksTo51 sheetChecks exerciseGroup placeGroup
+to-51-known c = search parts depth 20
 
-pub to-51-numbered : (e a : List ℕ) (r : ℕ) → Numbered (checksTo51 e a r)
-to-51-numbered e a r = known-numbered numbersTo51 refl (checksTo51 e a r) (to-51-known e a r)
+pub to-51-numbered : (c : Call) → Numbered (checksTo51 c)
+to-51-numbered c = known-numbered numbersTo51 refl (checksTo51 c) (to-51-known c)
 
-pub all-known : (t : Table) (e a : List ℕ) (r : ℕ) → Every (In refusalNumbers) (checks t e a r)
+pub all-known : (c : Call) → Every (In refusalNumbers) (checks c)
 unfolding checks labGroup
-all-known t e a r =
-    every-append (In refusalNumbers) (checksTo51 e a r) _
-    (every-weaker To51 _ (λ k h. elem-more (k .finding .number) numbersTo51 labNumbers h) (checksTo51 e a r) (to-51-known e a r))
-    (every-joined (In refusalNumbers) (λ l. ofLab l (labChecks t (labCells e a l))) (λ l. lab-known t (labCells e a l) l) (below 1024))
+all-known c =
+    every-append (In refusalNumbers) (checksTo51 c) _
+    (every-weaker To51 _ (λ k h. elem-more (k .finding .number) numbersTo51 labNumbers h) (checksTo51 c) (to-51-known c))
+    (every-joined (In refusalNumbers) (λ l. ofLab l (labChecks (c .table) (labCells c l))) (λ l. lab-known (c .table) (labCells c l) l) (below 1024))
 
-pub all-numbered : (t : Table) (e a : List ℕ) (r : ℕ) → Numbered (checks t e a r)
-all-numbered t e a r = known-numbered refusalNumbers refl (checks t e a r) (all-known t e a r)
+pub all-numbered : (c : Call) → Numbered (checks c)
+all-numbered c = known-numbered refusalNumbers refl (checks c) (all-known c)

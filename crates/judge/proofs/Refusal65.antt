@@ -8,7 +8,7 @@ use native.Mathlib.Decide.{decLt}
 use native.Mathlib.Omega.{arith}
 use lib.Dec.{eqb, ltb}
 use borrow.Author.Tests.{eqb-true, ne-eqb, lt-ltb}
-use Rattle.sheet.specs.Lists.{Every, concatMap, filterb, from, below, firstFrom}
+use Rattle.sheet.specs.Lists.{concatMap, filterb, from, below, firstFrom}
 use Rattle.sheet.specs.Checks as sheet
 use Rattle.exercise.specs.Exercise.{cellCount}
 use Rattle.exercise.specs.declared.Record.{Record}
@@ -23,6 +23,7 @@ use Rattle.placing.specs.Places.{labAt}
 use Rattle.lab_pass.specs.Members.{members}
 use Rattle.sheet.specs.Checks.{NONE}
 use Rattle.judge.specs.declared.Finding.{Finding}
+use Rattle.judge.specs.Call.{Call}
 use Rattle.judge.specs.Judge.{Check, finding, ofLab, labCells, labGroup, checksTo51, checks, firstBroken, judged, verdictOf}
 use Rattle.judge.specs.Numbers.{numbersTo51}
 use Rattle.judge.specs.Demands.{AllHold, FourThings, Keeps60to64, Keeps65, labNeeds}
@@ -69,22 +70,25 @@ none-pass : (p : ℕ → Bool) (k i : ℕ) → ((j : ℕ) → i ≤ j → j < i 
 none-pass p zero i h = refl
 none-pass p (suc k) i h = rw (h i (omega arith) (omega arith)) (none-pass p k (suc i) (λ j a b. h j (omega arith) (omega arith)))
 
-module _ (e a : List ℕ) where
-  nobody : (r l : ℕ) → AllHold (checksTo51 e a r) → 1024 ≤ l → labCells e a l ≡ []
-  unfolding labCells members
-  nobody r l h g =
-      rw (none-pass (λ i. eqb (labAt a i) l) (cellCount e) 0
-      (λ i _ m. ne-eqb (labAt a i) l (λ q. omega (arith, lab-in-range a i (places-held e a r h i (omega arith))))))
+module _ (c : Call) (l : ℕ) where
+  abbrev t : Table
+  t = c .table
 
-module _ (t : Table) (e a : List ℕ) (r l : ℕ) where
-  on-board : FourThings t e a r l → l < 1024
+  nobody : AllHold (checksTo51 c) → 1024 ≤ l → labCells c l ≡ []
+  unfolding labCells members
+  nobody h g =
+      let a = c .answer in
+      rw (none-pass (λ i. eqb (labAt a i) l) (cellCount (c .exercise)) 0
+      (λ i _ m. ne-eqb (labAt a i) l (λ q. omega (arith, lab-in-range a i (places-held c h i (omega arith))))))
+
+  on-board : FourThings c l → l < 1024
   unfolding labNeeds needs inLab
   on-board f =
-      let alone : 1024 ≤ l → Way t (labNeeds t e a l) [] = λ h. rw (nobody e a r l (f .to-51-hold) h) (earliest-some t [] [] (no-needs t) .0) in
+      let alone : 1024 ≤ l → Way t (labNeeds c l) [] = λ h. rw (nobody (f .to-51-hold) h) (earliest-some t [] [] (no-needs t) .0) in
       elim (decLt l 1024) [ yes h ↦ h | no h ↦ absurd (f .has-no-way [] (alone (omega arith))) ]
 
   abbrev cells : ℕ → List Record
-  cells = labCells e a
+  cells = labCells c
 
   abbrev rules : ℕ → List sheet.Check
   rules j = labChecks t (cells j)
@@ -101,8 +105,8 @@ module _ (t : Table) (e a : List ℕ) (r l : ℕ) where
     λ h. told t (cells j) b .1 (hold-number j (labRules (cells j)) (h .0), h .1),
   )
 
-  four-things : AllHold (checksTo51 e a r) → firstBroken (labGroup t e a) .number ≡ 65 → firstBroken (labGroup t e a) .lab ≡ l
-      → FourThings t e a r l
+  four-things : AllHold (checksTo51 c) → firstBroken (labGroup c) .number ≡ 65 → firstBroken (labGroup c) .lab ≡ l
+      → FourThings c l
   unfolding labGroup Keeps60to64 Keeps65 labNeeds
   four-things h n p =
       let low = lab-from rules numbered 1024 l 65 (λ q. omega arith) n p in
@@ -114,26 +118,26 @@ module _ (t : Table) (e a : List ℕ) (r l : ℕ) where
         has-no-way = stuck t (cells l) .0 (here .1);
       }
 
-  found-65 : FourThings t e a r l → firstBroken (checks t e a r) ≡ finding 65 NONE l
+  found-65 : FourThings c l → firstBroken (checks c) ≡ finding 65 NONE l
   unfolding checks labGroup Keeps60to64 Keeps65 labNeeds
   found-65 f =
-      skip-held (checksTo51 e a r) (labGroup t e a) (f .to-51-hold)
+      skip-held (checksTo51 c) (labGroup c) (f .to-51-hold)
       ∙ lab-to rules numbered 1024 l 65 (λ q. omega arith) (on-board f)
       (λ j m. let k = f .lower-keep j m in number-told j false .1 (k .0, goes t (cells j) .1 (k .1)))
       (number-told l true .1 (f .keeps-to-64, stuck t (cells l) .1 (f .has-no-way)))
 
   abbrev early : List Check
-  early = checksTo51 e a r
+  early = checksTo51 c
 
   -- 65 is none of the numbers 1 to 51
-  early-held : firstBroken (early ++ labGroup t e a) .number ≡ 65 → AllHold early
-  early-held n = later-held 65 numbersTo51 refl early (labGroup t e a) (to-51-known e a r) n
+  early-held : firstBroken (early ++ labGroup c) .number ≡ 65 → AllHold early
+  early-held n = later-held 65 numbersTo51 refl early (labGroup c) (to-51-known c) n
 
-  pub refusal-65 : ((judged t e a r .number ≡ 65) × (judged t e a r .lab ≡ l)) ↔ FourThings t e a r l
+  pub refusal-65 : ((judged c .number ≡ 65) × (judged c .lab ≡ l)) ↔ FourThings c l
   unfolding judged verdictOf checks
   refusal-65 = (
     λ p. let held = early-held (p .0) in
-        let later = skip-held early (labGroup t e a) held in
+        let later = skip-held early (labGroup c) held in
         four-things held (rw later at (p .0)) (rw later at (p .1)),
     λ f. (ap (λ (x : Finding). x .number) (found-65 f), ap (λ (x : Finding). x .lab) (found-65 f)),
   )

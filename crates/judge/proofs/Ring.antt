@@ -1,4 +1,4 @@
--- "A ring of carries therefore always ends in 51, where nothing earlier is broken." Assumes nothing.
+-- A ring of carries always ends in 51: where 51 held, each cell of the ring would stand past the one before it. Assumes nothing.
 use Prim.Native.Nat.{ℕ, zero, suc, _+_, _≤_, _<_}
 use native.Mathlib.Omega.{arith}
 use mathlib.Core.Path.{_≡_, refl, sym, _∙_}
@@ -8,40 +8,19 @@ use lib.Dec.{eqb, ltb}
 use borrow.Author.Tests.{eqb-true, eqb-false}
 use Rattle.sheet.specs.Lists.{anyb, from, firstFrom}
 use Rattle.exercise.specs.Exercise.{cellCount}
-use Rattle.exercise.specs.declared.CombinationalCell.{CombinationalCell}
 use Rattle.exercise.specs.declared.Record.the-variants.{Combinational}
 use Rattle.sheet.proofs.Laws.{by-test}
-use Rattle.route.specs.Table.{Table}
 use Rattle.tables.specs.Records.{cell, cellNumbers}
 use Rattle.netlist.specs.Cells.{feeds}
 use Rattle.placing.specs.Places.{follows, placeTaken}
 use Rattle.placing.proofs.Places.{no-ring}
 use Rattle.sheet.specs.Checks.{NONE}
-use Rattle.judge.specs.Judge.{finding, perCell, standsApart, carryNotNext, roomChecks, exerciseGroup, answerGroup, cellGroup, placeGroup, labGroup, checksTo51, checks, firstBroken, judged, verdictOf}
-use Rattle.judge.specs.Demands.{AllHold}
+use Rattle.judge.specs.Call.{Call}
+use Rattle.judge.specs.Judge.{finding, perCell, standsApart, carryNotNext, roomChecks, exerciseGroup, answerGroup, cellGroup, placeGroup, labGroup, sheetChecks, checksTo51, checks, firstBroken, judged, verdictOf}
+use Rattle.judge.specs.Ring.{FedBy, Ring, HoldsTo50, RingLaw}
 use Rattle.judge.proofs.Broken.{first-append, skip-held, run-finds}
 use Rattle.judge.proofs.Numbers.{to-51-numbered}
 use Rattle.sheet.proofs.First.{none-below}
-
--- the cout of cell j is the cin of cell i
-pub record FedBy (e : List ℕ) (j i : ℕ) : Type 0 where
-  pub reader : CombinationalCell
-  pub is-reader : cell e i ≡ Combinational reader
-  pub fed : feeds (reader .cin .0) (cell e j) ≡ true
-
--- cells each of which feeds the next, and the last the first
-pub record Ring (e : List ℕ) (ring : ℕ → ℕ) (k : ℕ) : Type 0 where
-  pub there : (m : ℕ) → m < suc k → (ring m < cellCount e) × (ring (suc m) < cellCount e)
-  pub fed : (m : ℕ) → m < suc k → FedBy e (ring m) (ring (suc m))
-  pub closed : ring (suc k) ≡ ring 0
-
--- all that is checked before 51 holds
-pub record HoldsTo50 (e a : List ℕ) (r : ℕ) : Type 0 where
-  pub room : AllHold (roomChecks r)
-  pub exercise : AllHold (exerciseGroup e)
-  pub answer : AllHold (answerGroup e a)
-  pub cells : AllHold (cellGroup e)
-  pub places : AllHold (perCell 50 (placeTaken e a) (cellNumbers e))
 
 none-any : (f : ℕ → Bool) (i k : ℕ) → anyb f (from i k) ≡ false → (j : ℕ) → i ≤ j → j < i + k → f j ≡ false
 none-any f i zero h j p q = absurd (omega arith)
@@ -74,23 +53,26 @@ module _ (e a : List ℕ) (ring : ℕ → ℕ) (k : ℕ) (s : Ring e ring k) whe
       (λ m h. stands-next e a (ring m) (ring (suc m)) (s .there m h .0) (s .fed m h) (none-below (carryNotNext e a) (cellCount e) t (ring (suc m)) (s .there m h .1)))
       (s .closed)))
 
-  module _ (r : ℕ) (h : HoldsTo50 e a r) where
-    found-first : firstBroken (checksTo51 e a r) ≡ finding 51 (firstFrom (carryNotNext e a) 0 (cellCount e)) NONE
-    unfolding checksTo51 placeGroup
-    found-first =
-        let fifty = perCell 50 (placeTaken e a) (cellNumbers e) in
-        let last = perCell 51 (carryNotNext e a) (cellNumbers e) in
-        skip-held (roomChecks r) (exerciseGroup e ++ (answerGroup e a ++ (cellGroup e ++ (fifty ++ last)))) (h .room)
-        ∙ skip-held (exerciseGroup e) (answerGroup e a ++ (cellGroup e ++ (fifty ++ last))) (h .exercise)
-        ∙ skip-held (answerGroup e a) (cellGroup e ++ (fifty ++ last)) (h .answer)
-        ∙ skip-held (cellGroup e) (fifty ++ last) (h .cells)
-        ∙ skip-held fifty last (h .places)
-        ∙ run-finds 51 (carryNotNext e a) (cellCount e)
-        ∙ rw found-51
+module _ (c : Call) (ring : ℕ → ℕ) (k : ℕ) (s : Ring (c .exercise) ring k) (h : HoldsTo50 c) where
+  abbrev e : List ℕ
+  e = c .exercise
 
-    -- THE RING ENDS IN 51
-    pub ring-ends-in-51 : (t : Table) → judged t e a r .number ≡ 51
-    unfolding judged verdictOf checks
-    ring-ends-in-51 t =
-        let first = first-append (checksTo51 e a r) (labGroup t e a) (to-51-numbered e a r) in
-        rw (first, found-first)
+  abbrev a : List ℕ
+  a = c .answer
+
+  found-first : firstBroken (checksTo51 c) ≡ finding 51 (firstFrom (carryNotNext e a) 0 (cellCount e)) NONE
+  unfolding checksTo51 sheetChecks placeGroup
+  found-first =
+      let fifty = perCell 50 (placeTaken e a) (cellNumbers e) in
+      let last = perCell 51 (carryNotNext e a) (cellNumbers e) in
+      skip-held (roomChecks (c .room)) (exerciseGroup e ++ (answerGroup e a ++ (cellGroup e ++ (fifty ++ last)))) (h .room)
+      ∙ skip-held (exerciseGroup e) (answerGroup e a ++ (cellGroup e ++ (fifty ++ last))) (h .exercise)
+      ∙ skip-held (answerGroup e a) (cellGroup e ++ (fifty ++ last)) (h .answer)
+      ∙ skip-held (cellGroup e) (fifty ++ last) (h .cells)
+      ∙ skip-held fifty last (h .places)
+      ∙ run-finds 51 (carryNotNext e a) (cellCount e)
+      ∙ rw (found-51 e a ring k s)
+
+pub ring-ends-in-51 : RingLaw
+unfolding RingLaw judged verdictOf checks
+ring-ends-in-51 c ring k s h = rw (first-append (checksTo51 c) (labGroup c) (to-51-numbered c), found-first c ring k s h)

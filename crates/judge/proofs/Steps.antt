@@ -9,12 +9,11 @@ use lib.ListN.{length, getD, drop, replicate, length-replicate, getD-replicate}
 use lib.Seq.{drop-cons, drop-length}
 use lib.Dec.{eqb, ltb}
 use borrow.Author.Tests.{eq-eqb, ne-eqb, eqb-true, eqb-false, not-true, lt-ltb, le-ltb}
-use Rattle.sheet.specs.Lists.{concatMap, filterb, elemb, from, below, firstFrom}
+use Rattle.sheet.specs.Lists.{filterb, elemb, from, firstFrom}
 use Rattle.sheet.specs.Bytes.{beginsAt}
 use Rattle.exercise.specs.Exercise.{netCount, cellCount, exerciseNumber}
 use Rattle.answer.specs.Answer.{answerNumber, placeCount, wrongAnswerLength, placeStart}
 use Rattle.route.specs.Table.{Table, houseBoard}
-use Rattle.lab_rules.specs.Rules.{routeOf}
 use Rattle.sheet.proofs.Laws.{by-test}
 use Rattle.lab_rules.specs.passes.Counts.{AllFit}
 use Rattle.tables.specs.Records.{cell, malformed, doubleDriver}
@@ -35,7 +34,8 @@ use Rattle.judge.specs.declared.Fault.{Fault}
 use Rattle.judge.specs.declared.Finding.{Finding}
 use Rattle.judge.specs.declared.Part.{Part}
 use Rattle.judge.specs.declared.Verdict.{Verdict}
-use Rattle.judge.specs.Judge.{finding, legal, ofAnswer, exerciseGroup, answerGroup, cellGroup, placeGroup, labGroup, checksTo51, checks, labCells, firstBroken, firstOr, lowestIn, culpritAt, culpritOf, verdictOf, judged, bytesOf, addressOf, routed}
+use Rattle.judge.specs.Call.{Call, call}
+use Rattle.judge.specs.Judge.{finding, legal, ofAnswer, roomChecks, exerciseGroup, answerGroup, cellGroup, placeGroup, labGroup, sheetChecks, checksTo51, checks, labCells, firstBroken, firstOr, lowestIn, culpritAt, culpritOf, verdictOf, judged, bytesOf, addressOf, routeBytes, routed}
 use Rattle.judge.specs.Numbers.{faultOf}
 use Rattle.judge.specs.Culprit.{Inside, CulpritLaw}
 use Rattle.judge.specs.passes.Stages.{numberedAs, numbered, numberedLab, placedBy}
@@ -196,23 +196,23 @@ pub ruleset cells-steps = (cells-stop, cells-go)
 
 -- ---- 1 to 51
 module _ (e a : List ℕ) (room : ℕ) where
-  pub to-room : {r : Finding} → (room ≡ 8192 → ⊥) → r ≡ finding 1 NONE NONE → r ≡ firstBroken (checksTo51 e a room)
+  pub to-room : {r : Finding} → (room ≡ 8192 → ⊥) → r ≡ finding 1 NONE NONE → r ≡ firstBroken (roomChecks room ++ sheetChecks e a)
   to-room h q = rw to-51-finds (rw (ne-eqb room 8192 h) q)
 
   module _ (f : Finding) (whole : room ≡ 8192) (x : f ≡ firstBroken (exerciseGroup e)) where
-    pub to-exercise : (f .number ≡ 0 → ⊥) → f ≡ firstBroken (checksTo51 e a room)
+    pub to-exercise : (f .number ≡ 0 → ⊥) → f ≡ firstBroken (roomChecks room ++ sheetChecks e a)
     to-exercise h = rw to-51-finds (rw (eq-eqb room 8192 whole) (then-stays (firstBroken (exerciseGroup e)) _ (λ z. h (ap (λ (k : Finding). k .number) x ∙ z)) x))
 
     pub passed-exercise : f .number ≡ 0 → firstBroken (exerciseGroup e) .number ≡ 0
     passed-exercise h = ap (λ (k : Finding). k .number) (sym x) ∙ h
 
     module _ (g : Finding) (none : f .number ≡ 0) (y : g ≡ firstBroken (answerGroup e a)) where
-      pub to-answer : (g .number ≡ 0 → ⊥) → g ≡ firstBroken (checksTo51 e a room)
+      pub to-answer : (g .number ≡ 0 → ⊥) → g ≡ firstBroken (roomChecks room ++ sheetChecks e a)
       to-answer h =
           rw to-51-finds (rw (eq-eqb room 8192 whole) (then-goes (firstBroken (exerciseGroup e)) _ (passed-exercise none)
           (then-stays (firstBroken (answerGroup e a)) _ (λ z. h (ap (λ (k : Finding). k .number) y ∙ z)) y)))
 
-      pub to-cells : {r : Finding} → g .number ≡ 0 → r ≡ firstBroken (cellGroup e ++ placeGroup e a) → r ≡ firstBroken (checksTo51 e a room)
+      pub to-cells : {r : Finding} → g .number ≡ 0 → r ≡ firstBroken (cellGroup e ++ placeGroup e a) → r ≡ firstBroken (roomChecks room ++ sheetChecks e a)
       to-cells h q =
           rw to-51-finds (rw (eq-eqb room 8192 whole) (then-goes (firstBroken (exerciseGroup e)) _ (passed-exercise none)
           (then-goes (firstBroken (answerGroup e a)) _ (ap (λ (k : Finding). k .number) (sym y) ∙ h) q)))
@@ -298,13 +298,24 @@ pub rows-size : (some : ℕ → Bool) (g : ℕ → List ℕ) (rows : List ℕ) (
 rows-size some g rows l p = sym (rw p (rows-long some g blank l ∙ blank-size))
 
 -- ---- 60 to 65, of sheets that pass 1 to 51
-module _ (t : Table) (e a : List ℕ) (room : ℕ) (passed : firstBroken (checksTo51 e a room) .number ≡ 0) where
-  past-room : (room ≡ 8192) × (then (firstBroken (exerciseGroup e)) (then (firstBroken (answerGroup e a)) (firstBroken (cellGroup e ++ placeGroup e a))) .number ≡ 0)
-  past-room =
-      by-test (eqb room 8192) (λ q. (eqb-true room 8192 q, rw (to-51-finds, q) at passed))
-      (λ q. let z : _≡_ {A = ℕ} 1 0 = rw (to-51-finds, q) at passed in absurd (omega arith))
+module _ (c : Call) (passed : firstBroken (checksTo51 c) .number ≡ 0) where
+  abbrev t : Table
+  t = c .table
 
-  pub whole-room : room ≡ 8192
+  abbrev e : List ℕ
+  e = c .exercise
+
+  abbrev a : List ℕ
+  a = c .answer
+
+  past-room : (c .room ≡ 8192) × (then (firstBroken (exerciseGroup e)) (then (firstBroken (answerGroup e a)) (firstBroken (cellGroup e ++ placeGroup e a))) .number ≡ 0)
+  unfolding checksTo51
+  past-room =
+      let found : firstBroken (roomChecks (c .room) ++ sheetChecks e a) .number ≡ 0 = passed in
+      by-test (eqb (c .room) 8192) (λ q. (eqb-true (c .room) 8192 q, rw (to-51-finds, q) at found))
+      (λ q. let z : _≡_ {A = ℕ} 1 0 = rw (to-51-finds, q) at found in absurd (omega arith))
+
+  pub whole-room : c .room ≡ 8192
   whole-room = past-room .0
 
   past-exercise : firstBroken (exerciseGroup e) .number ≡ 0
@@ -319,51 +330,58 @@ module _ (t : Table) (e a : List ℕ) (room : ℕ) (passed : firstBroken (checks
       let cells = then-first (firstBroken (cellGroup e)) (firstBroken (placeGroup e a)) (rw cells-places-find at past) in
       numbered-none _ (λ m i. refl) (cellNumber e) (cellCount e) (rw cells-finds at cells)
 
-  fits : (l : ℕ) → AllFit (labCells e a l)
+  fits : (l : ℕ) → AllFit (labCells c l)
   unfolding cellNumber
-  fits = lab-fit e a (sound .nets) cell-zero
+  fits = lab-fit c (sound .nets) cell-zero
 
-  module _ (cells : ℕ) (first next : List ℕ) (c : cells ≡ cellCount e)
+  module _ (cells : ℕ) (first next : List ℕ) (n : cells ≡ cellCount e)
       (x : first ≡ linked a cells .first) (y : next ≡ linked a cells .next)
       (l : LowestBroken) (found : l ≡ lowestBroken t (knownAt e) first next) (f : Finding) where
-    lab-group : f ≡ numberedLab (λ k. resultAt t (knownAt e) first next k .number) → f ≡ firstBroken (labGroup t e a)
-    lab-group q = q ∙ rw (x, y, c) (labs-are t e a sound fits)
+    lab-group : f ≡ numberedLab (λ k. resultAt t (knownAt e) first next k .number) → f ≡ firstBroken (labGroup c)
+    lab-group q = q ∙ rw (x, y, n) (labs-are c sound fits)
 
     pub labs-stop : (before : List ℕ) → l .lab < 1024 → f ≡ finding (l .number) NONE (l .lab)
-        → (f ≡ firstBroken (labGroup t e a)) × (before ≡ cond (eqb (f .number) 0) (concatMap (λ k. routeOf t (labCells e a k)) (below 1024)) before)
+        → (f ≡ firstBroken (labGroup c)) × (before ≡ cond (eqb (f .number) 0) (routeBytes c) before)
     labs-stop before h q =
         let some : f .number ≡ 0 → ⊥ = λ z. lab-refused t (knownAt e) first next l found h (ap (λ (z : Finding). z .number) (sym q) ∙ z) in
         (lab-group (lab-broken t (knownAt e) first next l found h q), rw (ne-eqb (f .number) 0 some))
 
     pub labs-go : (before after rows : List ℕ) → 1024 ≤ l .lab → f ≡ legal
         → rows ≡ putRows (hasCells first next) (λ k. resultAt t (knownAt e) first next k .bytes) blank (l .lab) → after ≡ rows
-        → (f ≡ firstBroken (labGroup t e a)) × (after ≡ cond (eqb (f .number) 0) (concatMap (λ k. routeOf t (labCells e a k)) (below 1024)) before)
+        → (f ≡ firstBroken (labGroup c)) × (after ≡ cond (eqb (f .number) 0) (routeBytes c) before)
     labs-go before after rows h q p o =
         let none : f .number ≡ 0 = ap (λ (z : Finding). z .number) q in
         let group = lab-group (labs-kept t (knownAt e) first next l found h q) in
-        let held : firstBroken (labGroup t e a) .number ≡ 0 = ap (λ (z : Finding). z .number) (sym group) ∙ none in
+        let held : firstBroken (labGroup c) .number ≡ 0 = ap (λ (z : Finding). z .number) (sym group) ∙ none in
         let all = labs-all t (knownAt e) first next l found h in
-        (group, rw (eq-eqb (f .number) 0 none) (o ∙ p ∙ rw (all, x, y, c) (routes-are t e a sound fits held blank blank-bytes blank-size)))
+        (group, rw (eq-eqb (f .number) 0 none) (o ∙ p ∙ rw (all, x, y, n) (routes-are c sound fits held blank blank-bytes blank-size)))
 
 -- ---- the whole verdict
-module _ (t : Table) (e a before : List ℕ) (f : Finding) (x : f ≡ firstBroken (checksTo51 e a (length before))) where
-  whole : firstBroken (checks t e a (length before)) ≡ then f (firstBroken (labGroup t e a))
+module _ (c : Call) (before : List ℕ) (f : Finding) (x : f ≡ firstBroken (roomChecks (c .room) ++ sheetChecks (c .exercise) (c .answer))) where
+  to-51 : f ≡ firstBroken (checksTo51 c)
+  unfolding checksTo51
+  to-51 = x
+
+  pub passed-to-51 : f .number ≡ 0 → firstBroken (checksTo51 c) .number ≡ 0
+  passed-to-51 h = ap (λ (k : Finding). k .number) (sym to-51) ∙ h
+
+  whole : firstBroken (checks c) ≡ then f (firstBroken (labGroup c))
   unfolding checks
-  whole = first-append (checksTo51 e a (length before)) (labGroup t e a) (to-51-numbered e a (length before)) ∙ rw (← x)
+  whole = first-append (checksTo51 c) (labGroup c) (to-51-numbered c) ∙ rw (← to-51)
 
   module _ (v : Verdict) where
-    pub judge-refused : (f .number ≡ 0 → ⊥) → v ≡ verdictOf e a f → (v ≡ judged t e a (length before)) × (before ≡ routed t e a before)
+    pub judge-refused : (f .number ≡ 0 → ⊥) → v ≡ verdictOf (c .exercise) (c .answer) f → (v ≡ judged c) × (before ≡ routed c before)
     unfolding judged routed verdictOf
     judge-refused h q =
-        let same : firstBroken (checks t e a (length before)) ≡ f = whole ∙ rw (ne-eqb (f .number) 0 h) in
+        let same : firstBroken (checks c) ≡ f = whole ∙ rw (ne-eqb (f .number) 0 h) in
         (rw same q, rw same (rw (ne-eqb (f .number) 0 h)))
 
-    pub judge-done : (g : Finding) (after : List ℕ) → f .number ≡ 0 → g ≡ firstBroken (labGroup t e a)
-        → after ≡ cond (eqb (g .number) 0) (concatMap (λ l. routeOf t (labCells e a l)) (below 1024)) before → v ≡ verdictOf e a g
-        → (v ≡ judged t e a (length before)) × (after ≡ routed t e a before)
+    pub judge-done : (g : Finding) (after : List ℕ) → f .number ≡ 0 → g ≡ firstBroken (labGroup c)
+        → after ≡ cond (eqb (g .number) 0) (routeBytes c) before → v ≡ verdictOf (c .exercise) (c .answer) g
+        → (v ≡ judged c) × (after ≡ routed c before)
     unfolding judged routed verdictOf
     judge-done g after h y w q =
-        let same : firstBroken (checks t e a (length before)) ≡ g = whole ∙ rw (eq-eqb (f .number) 0 h) (sym y) in
+        let same : firstBroken (checks c) ≡ g = whole ∙ rw (eq-eqb (f .number) 0 h) (sym y) in
         (rw same q, rw same w)
 
 -- ---- the verdict handed out: the culprit's bytes and where they begin, the route and the four numbers
@@ -377,13 +395,14 @@ begins-inside e a at-e at-a p h =
     (λ b. let low : min (p .start) (length e) ≡ p .start = omega (arith, rw b at h) in rw (b, low))
 
 pub handed-out : (t : Table) (e a before after : List ℕ) (v : Verdict) (part : List ℕ) (at-e at-a at : ℕ × ℕ) (number cell lab : ℕ) → t ≡ houseBoard
-    → v ≡ judged t e a (length before) → after ≡ routed t e a before → part ≡ bytesOf e a (v .culprit)
+    → v ≡ judged (call t e a (length before)) → after ≡ routed (call t e a (length before)) before → part ≡ bytesOf e a (v .culprit)
     → at ≡ cond (v .culprit .«of_answer») (beginsAt at-a (min (v .culprit .start) (length a))) (beginsAt at-e (min (v .culprit .start) (length e)))
     → number ≡ v .number → cell ≡ v .cell → lab ≡ v .lab
-    → (part ≡ bytesOf e a (judged houseBoard e a (length before) .culprit))
-    × ((at ≡ addressOf at-e at-a (judged houseBoard e a (length before) .culprit))
-    × ((after ≡ routed houseBoard e a before) × (number ∷ cell ∷ lab ∷ v .apprentice ∷ [] ≡ numbersOf (judged houseBoard e a (length before)))))
+    → let c = call houseBoard e a (length before) in
+    (part ≡ bytesOf e a (judged c .culprit))
+    × ((at ≡ addressOf at-e at-a (judged c .culprit))
+    × ((after ≡ routed c before) × (number ∷ cell ∷ lab ∷ v .apprentice ∷ [] ≡ numbersOf (judged c))))
 unfolding CulpritLaw
-handed-out t e a before after v part at-e at-a at number cell lab h x y p o n c l =
-    let inside : Inside e a (v .culprit) = rw x (culprit-inside t e a (length before)) in
-    (p ∙ rw (x, h), (o ∙ begins-inside e a at-e at-a (v .culprit) inside ∙ rw (x, h), (y ∙ rw h, rw (n, c, l, x, h))))
+handed-out t e a before after v part at-e at-a at number cell lab h x y p o n m l =
+    let inside : Inside e a (v .culprit) = rw x (culprit-inside (call t e a (length before))) in
+    (p ∙ rw (x, h), (o ∙ begins-inside e a at-e at-a (v .culprit) inside ∙ rw (x, h), (y ∙ rw h, rw (n, m, l, x, h))))

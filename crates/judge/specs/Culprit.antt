@@ -4,8 +4,8 @@ use Prim.Native.Nat.{ℕ, _+_, _≤_}
 use mathlib.Core.Bool.{cond}
 use mathlib.Core.List.{List}
 use lib.ListN.{length}
-use Rattle.route.specs.Table.{Table}
 use Rattle.judge.specs.declared.Part.{Part}
+use Rattle.judge.specs.Call.{Call}
 use Rattle.judge.specs.Judge.{judged}
 
 -- a part ends where its sheet does, or before
@@ -13,4 +13,4 @@ unfoldable pub Inside : List ℕ → List ℕ → Part → Type 0
 Inside e a p = p .start + p .size ≤ length (cond (p .«of_answer») a e)
 
 unfoldable pub CulpritLaw : Type 0
-CulpritLaw = (t : Table) (e a : List ℕ) (r : ℕ) → Inside e a (judged t e a r .culprit)
+CulpritLaw = (c : Call) → Inside (c .exercise) (c .answer) (judged c .culprit)

@@ -1,5 +1,6 @@
 -- Document 01, "Verdict numbers, in the order of checking": the checks as a list, the verdict as its first broken check, and the route buffer.
--- `e` is the exercise, `a` the answer, `r` the route buffer's length, `t` the entry table. Assumes nothing.
+-- `c` is the call; a definition that reads less of it takes what it reads: `e` the exercise, `a` the answer, `r` the route buffer's length.
+-- Assumes nothing.
 use Prim.Native.Nat.{ℕ, min}
 use mathlib.Core.Bool.{Bool, true, false, cond, not, _&&_}
 use mathlib.Core.List.{List, [], _∷_, _++_, map}
@@ -12,7 +13,6 @@ use Rattle.exercise.specs.Exercise.{cellCount, exerciseChecks, recordStart}
 use Rattle.answer.specs.Answer.{apprentice, placeCount, answerChecks, wrongAnswerLength, placeStart}
 use Rattle.exercise.specs.declared.Record.{Record}
 use Rattle.exercise.specs.declared.Record.the-variants.{Combinational, Register, Malformed}
-use Rattle.route.specs.Table.{Table}
 use Rattle.lab_rules.specs.Rules.{labChecks, routeOf}
 use Rattle.tables.specs.Records.{cell, cellNumbers, malformed, doubleDriver}
 use Rattle.netlist.specs.Cells.{feeds, cellChecks}
@@ -24,6 +24,7 @@ use Rattle.judge.specs.declared.Fault.the-variants as fault
 use Rattle.judge.specs.declared.Finding.{Finding}
 use Rattle.judge.specs.declared.Part.{Part}
 use Rattle.judge.specs.declared.Verdict.{Verdict}
+use Rattle.judge.specs.Call.{Call}
 use Rattle.judge.specs.Numbers.{namelessNumbers, faultOf}
 
 -- what a verdict says first: the number, the cell, the LAB, NONE ("65,535") "where there is none"
@@ -71,12 +72,12 @@ unfoldable pub carryNotNext : List ℕ → List ℕ → ℕ → Bool
 carryNotNext e a i = standsApart e a i (cell e i)
 
 -- the cells that the answer puts into LAB l, by number
-unfoldable pub labCells : List ℕ → List ℕ → ℕ → List Record
-labCells e a l = map (cell e) (members a (cellCount e) l)
+unfoldable pub labCells : Call → ℕ → List Record
+labCells c l = map (cell (c .exercise)) (members (c .answer) (cellCount (c .exercise)) l)
 
 -- "an occupied LAB is one where the answer sheet puts at least one cell"
-unfoldable pub occupied : List ℕ → List ℕ → ℕ → Bool
-occupied e a l = anyb (λ i. eqb (labAt a i) l) (cellNumbers e)
+unfoldable pub occupied : Call → ℕ → Bool
+occupied c l = anyb (λ i. eqb (labAt (c .answer) i) l) (cellNumbers (c .exercise))
 
 -- ---- the order of checking, in the groups of document 01's table
 
@@ -105,16 +106,20 @@ unfoldable pub placeGroup : List ℕ → List ℕ → List Check
 placeGroup e a = perCell 50 (placeTaken e a) (cellNumbers e) ++ perCell 51 (carryNotNext e a) (cellNumbers e)
 
 -- 60 to 65: lowest LAB number, then lowest rule
-unfoldable pub labGroup : Table → List ℕ → List ℕ → List Check
-labGroup t e a = concatMap (λ l. ofLab l (labChecks t (labCells e a l))) (below 1024)
+unfoldable pub labGroup : Call → List Check
+labGroup c = concatMap (λ l. ofLab l (labChecks (c .table) (labCells c l))) (below 1024)
+
+-- 10 to 51, of the two sheets
+unfoldable pub sheetChecks : List ℕ → List ℕ → List Check
+sheetChecks e a = exerciseGroup e ++ (answerGroup e a ++ (cellGroup e ++ placeGroup e a))
 
 -- all the checks of numbers 1 to 51
-unfoldable pub checksTo51 : List ℕ → List ℕ → ℕ → List Check
-checksTo51 e a r = roomChecks r ++ (exerciseGroup e ++ (answerGroup e a ++ (cellGroup e ++ placeGroup e a)))
+unfoldable pub checksTo51 : Call → List Check
+checksTo51 c = roomChecks (c .room) ++ sheetChecks (c .exercise) (c .answer)
 
 -- ALL CHECKS, IN THE ORDER OF CHECKING
-unfoldable pub checks : Table → List ℕ → List ℕ → ℕ → List Check
-checks t e a r = checksTo51 e a r ++ labGroup t e a
+unfoldable pub checks : Call → List Check
+checks c = checksTo51 c ++ labGroup c
 
 -- what the first broken check finds, or that none is broken
 abbrev pub firstBroken : List Check → Finding
@@ -169,8 +174,8 @@ verdictOf e a f = record {
 }
 
 -- THE VERDICT: the first broken check of the list
-unfoldable pub judged : Table → List ℕ → List ℕ → ℕ → Verdict
-judged t e a r = verdictOf e a (firstBroken (checks t e a r))
+unfoldable pub judged : Call → Verdict
+judged c = verdictOf (c .exercise) (c .answer) (firstBroken (checks c))
 
 -- the bytes of the culprit
 unfoldable pub bytesOf : List ℕ → List ℕ → Part → List ℕ
@@ -180,10 +185,13 @@ bytesOf e a p = cond (p .«of_answer») (partAt a (p .start) (p .size)) (partAt 
 unfoldable pub addressOf : ℕ × ℕ → ℕ × ℕ → Part → ℕ × ℕ
 addressOf e a p = beginsAt (cond (p .«of_answer») a e) (p .start)
 
--- THE ROUTE BUFFER AT EXIT: on a refusal as it was, else eight bytes for each LAB, by number
-unfoldable pub routed : Table → List ℕ → List ℕ → List ℕ → List ℕ
-routed t e a before =
-    cond (eqb (judged t e a (length before) .number) 0) (concatMap (λ l. routeOf t (labCells e a l)) (below 1024)) before
+-- "Route buffer when legal": eight bytes for each LAB, by number
+unfoldable pub routeBytes : Call → List ℕ
+routeBytes c = concatMap (λ l. routeOf (c .table) (labCells c l)) (below 1024)
+
+-- THE ROUTE BUFFER AT EXIT of a call that was lent `before`: on a refusal as it was, else the route bytes
+unfoldable pub routed : Call → List ℕ → List ℕ
+routed c before = cond (eqb (judged c .number) 0) (routeBytes c) before
 
 -- the four numbers of a verdict
 abbrev pub numbersOf : Verdict → List ℕ

@@ -1,5 +1,7 @@
+pub mod Call
 pub mod Numbers
 pub mod Judge
 pub mod Demands
 pub mod Culprit
+pub mod Ring
 pub mod passes

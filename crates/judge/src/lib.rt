@@ -3,21 +3,20 @@ use sheet::CellNumber;
 pub use sheet::NONE;
 ghost use mathlib.Core.Path.{_≡_};
 ghost use mathlib.Core.Bool.{cond};
-ghost use mathlib.Core.List.{[], _∷_, _++_};
-ghost use Prim.Native.Nat.{_+_, _*_, _<_, _≤_, min};
+ghost use mathlib.Core.List.{_++_};
+ghost use Prim.Native.Nat.{min};
 ghost use lib.ListN.{length};
 ghost use lib.Dec.{eqb, ltb};
-ghost use Rattle.sheet.specs.Lists.{concatMap, elemb, below};
+ghost use Rattle.sheet.specs.Lists.{elemb};
 ghost use Rattle.sheet.specs.Bytes.{beginsAt};
 ghost use Rattle.exercise.specs.Exercise.{recordStart};
 ghost use Rattle.exercise.specs.passes.Known.{knownAt};
 ghost use Rattle.answer.specs.Answer.{placeStart};
 ghost use Rattle.route.specs.Table.{houseBoard};
-ghost use Rattle.lab_rules.specs.Rules.{routeOf};
-ghost use Rattle.judge.specs.Judge.{finding, legal, ofExercise, ofAnswer, exerciseGroup, answerGroup, cellGroup, placeGroup, labGroup, checksTo51, labCells, firstBroken, apprenticeOf, lowestIn, culpritOf, verdictOf, judged, bytesOf, addressOf, routed};
+ghost use Rattle.judge.specs.Call.{call};
+ghost use Rattle.judge.specs.Judge.{finding, legal, ofExercise, ofAnswer, roomChecks, exerciseGroup, answerGroup, cellGroup, placeGroup, sheetChecks, labGroup, checksTo51, firstBroken, apprenticeOf, lowestIn, culpritOf, verdictOf, judged, bytesOf, addressOf, routeBytes, routed, numbersOf};
 ghost use Rattle.judge.specs.Numbers.{faultOf};
 ghost use Rattle.judge.specs.passes.Stages.{numbered, placedBy};
-ghost use Rattle.judge.specs.Judge.{numbersOf};
 ghost use Rattle.sheet.specs.Checks.{NONE};
 ghost use Rattle.netlist.specs.passes.Numbers.{numberAt};
 
@@ -199,7 +198,7 @@ fn cells_finding(exercise: &[u8], answer: &[u8]) -> Finding
 
 // 1 to 51.
 fn finding_to_51(exercise: &[u8], answer: &[u8], room: usize) -> Finding
-    ensures { λ r. ⌜ r ≡ firstBroken (checksTo51 (now (exercise .entry)) (now (answer .entry)) room) ⌝ }
+    ensures { λ r. ⌜ r ≡ firstBroken (roomChecks room ++ sheetChecks (now (exercise .entry)) (now (answer .entry))) ⌝ }
 {
     if room != ROUTE_SIZE {
         return plain(1);
@@ -229,9 +228,9 @@ fn copy(rows: &[u8], route: &mut [u8])
 
 // 60 to 65, of sheets that pass 1 to 51; where none is broken, the routes are written.
 fn judge_labs(table: EntryTable, exercise: &[u8], answer: &[u8], route: &mut [u8]) -> Finding
-    requires { ⌜ firstBroken (checksTo51 (now exercise) (now answer) (length (now route))) .number ≡ 0 ⌝ }
-    ensures found { λ r. ⌜ r ≡ firstBroken (labGroup table (now (exercise .entry)) (now (answer .entry))) ⌝ }
-    ensures written { λ r. ⌜ now (route .exit) ≡ cond (eqb (r .number) 0) (concatMap (λ l. routeOf table (labCells (now (exercise .entry)) (now (answer .entry)) l)) (below 1024)) (now (route .entry)) ⌝ }
+    requires { ⌜ firstBroken (checksTo51 (call table (now exercise) (now answer) (length (now route)))) .number ≡ 0 ⌝ }
+    ensures found { λ r. ⌜ r ≡ firstBroken (labGroup (call table (now (exercise .entry)) (now (answer .entry)) (length (now (route .entry))))) ⌝ }
+    ensures written { λ r. ⌜ now (route .exit) ≡ cond (eqb (r .number) 0) (routeBytes (call table (now (exercise .entry)) (now (answer .entry)) (length (now (route .entry))))) (now (route .entry)) ⌝ }
 {
     let cells = exercise::cell_count(exercise);
     let mut first = [NONE; 1024];
@@ -388,8 +387,8 @@ fn verdict_of(exercise: &[u8], answer: &[u8], f: Finding) -> Verdict
 
 // The verdict on two sheets on a board with this entry table; the routes are written where it is legal, and nothing is touched otherwise.
 pub fn judge_on(table: EntryTable, exercise: &[u8], answer: &[u8], route: &mut [u8]) -> Verdict
-    ensures verdict { λ r. ⌜ r ≡ judged table (now (exercise .entry)) (now (answer .entry)) (length (now (route .entry))) ⌝ }
-    ensures routes { λ r. ⌜ now (route .exit) ≡ routed table (now (exercise .entry)) (now (answer .entry)) (now (route .entry)) ⌝ }
+    ensures verdict { λ r. ⌜ r ≡ judged (call table (now (exercise .entry)) (now (answer .entry)) (length (now (route .entry)))) ⌝ }
+    ensures routes { λ r. ⌜ now (route .exit) ≡ routed (call table (now (exercise .entry)) (now (answer .entry)) (length (now (route .entry)))) (now (route .entry)) ⌝ }
 {
     let f = finding_to_51(exercise, answer, route.len());
     if f.number != 0 {
@@ -431,10 +430,10 @@ pub fn judge<'a>(
     route: &mut [u8],
     numbers: &mut [u32; 4],
 ) -> &'a [u8]
-    ensures bytes { λ r. ⌜ now r ≡ bytesOf (now (exercise .entry)) (now (answer .entry)) (judged houseBoard (now (exercise .entry)) (now (answer .entry)) (length (now (route .entry))) .culprit) ⌝ }
-    ensures place { λ r. ⌜ r .ptr ≡ addressOf (exercise .entry .ptr) (answer .entry .ptr) (judged houseBoard (now (exercise .entry)) (now (answer .entry)) (length (now (route .entry))) .culprit) ⌝ }
-    ensures routes { λ r. ⌜ now (route .exit) ≡ routed houseBoard (now (exercise .entry)) (now (answer .entry)) (now (route .entry)) ⌝ }
-    ensures told { λ r. ⌜ now (numbers .exit) ≡ numbersOf (judged houseBoard (now (exercise .entry)) (now (answer .entry)) (length (now (route .entry)))) ⌝ }
+    ensures bytes { λ r. ⌜ now r ≡ bytesOf (now (exercise .entry)) (now (answer .entry)) (judged (call houseBoard (now (exercise .entry)) (now (answer .entry)) (length (now (route .entry)))) .culprit) ⌝ }
+    ensures place { λ r. ⌜ r .ptr ≡ addressOf (exercise .entry .ptr) (answer .entry .ptr) (judged (call houseBoard (now (exercise .entry)) (now (answer .entry)) (length (now (route .entry)))) .culprit) ⌝ }
+    ensures routes { λ r. ⌜ now (route .exit) ≡ routed (call houseBoard (now (exercise .entry)) (now (answer .entry)) (length (now (route .entry)))) (now (route .entry)) ⌝ }
+    ensures told { λ r. ⌜ now (numbers .exit) ≡ numbersOf (judged (call houseBoard (now (exercise .entry)) (now (answer .entry)) (length (now (route .entry))))) ⌝ }
 {
     let v = judge_on(route::house_board(), exercise, answer, route);
     let number = wide8(v.number);

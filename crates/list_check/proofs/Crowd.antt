@@ -4,7 +4,7 @@ use mathlib.Core.Path.{_≡_, refl, sym, ap, _∙_}
 use mathlib.Core.Bool.{Bool, false, not, _&&_, true≢false}
 use mathlib.Core.List.{List}
 use native.Mathlib.Omega.{arith}
-use lib.ListN.{length}
+use lib.ListN.{length, length-map}
 use lib.Dec.{eqb}
 use borrow.Author.Tests.{eqb-true, eq-eqb}
 use Rattle.sheet.specs.Lists.{below, firstFrom}
@@ -20,7 +20,9 @@ use Rattle.placing.specs.Places.{kindAt, xAt, yAt, leAt, labAt, samePlace, plac
 use Rattle.placing.proofs.Places.{in-range, kind-of-record}
 use Rattle.lab_pass.specs.Members.{members}
 use Rattle.sheet.proofs.First.{none-below, first-is}
-use Rattle.judge.proofs.Kept.{Kept}
+use Rattle.judge.specs.Judge.{labCells}
+use Rattle.judge.proofs.Kept.{Kept, all-kept}
+use Rattle.list_check.specs.Agreement.{AtMost32}
 
 -- a rising list has each of its numbers once
 once : (l : List ℕ) → Above 0 l → distinct l ≡ length l
@@ -99,10 +101,13 @@ module _ (e a : List ℕ) (kept : Kept e a) where
         sym (first-is (hasCode (code e a i)) (cellCount e) 0 i (omega arith) (omega arith) (λ j _ h. no-lower i j h b q)
         (rw (eq-eqb (labAt a i) l q, eq-eqb (code e a i) (code e a i) refl)))
 
-    -- THE LAB IS NOT TOO FULL
-    pub at-most-32 : length (members a (cellCount e) l) ≤ 32
-    at-most-32 =
+    pub few-members : length (members a (cellCount e) l) ≤ 32
+    few-members =
         let image : (z : ℕ) → In z (members a (cellCount e) l) → _ = λ z m.
         let g = member-is e a l z m in
         in-map ofCode z (code e a z) (below 32) (from-in (code e a z) 0 32 (omega arith) (code-low z (g .0))) (code-back z (g .0) (g .1)) in
         omega (arith, members-once e a l, distinct-image ofCode (members a (cellCount e) l) (below 32) image, distinct-length (below 32))
+
+pub at-most-32 : AtMost32
+unfolding AtMost32 labCells
+at-most-32 c l h = rw length-map (few-members (c .exercise) (c .answer) (all-kept c h) l)

@@ -3,10 +3,9 @@ use Prim.Native.Nat.{ℕ, _+_, _*_}
 use mathlib.Core.Path.{_≡_, refl}
 use mathlib.Core.List.{List, [], _∷_, _++_}
 use Rattle.sheet.specs.Lists.{concatMap}
-use Rattle.judge.specs.Judge.{carryNotNext, labCells, occupied, roomChecks, exerciseGroup, answerGroup, cellGroup}
-use Rattle.judge.specs.Judge.{placeGroup, labGroup, checksTo51, checks, apprenticeOf, verdictOf, judged}
-use Rattle.lab_nets.specs.NetsIn.{inputs, netsIn}
+use Rattle.judge.specs.Judge.{carryNotNext, labCells, occupied, roomChecks, exerciseGroup, answerGroup, cellGroup, placeGroup, labGroup, sheetChecks, checksTo51, checks, apprenticeOf, verdictOf, judged}
 use Rattle.lab_rules.specs.Ports.{counted, clockPair, inUse, needed, inLab}
+use Rattle.lab_nets.specs.NetsIn.{inputs, netsIn}
 use Rattle.lab_rules.specs.Rules.{tooManyClocks, tooManyPairs, tooManyClears, tooManySynchronous, tooManyNets, needs, noWay, routeOf}
 use Rattle.lab_pass.specs.Members.{members}
 use Rattle.tables.specs.Records.{cell, malformed, driven, doubleDriver}
@@ -44,7 +43,7 @@ answer = ascii "LXA" ++ concatMap small (1 ∷ 7 ∷ 0 ∷ 2 ∷ []) ++ 2 ∷ 1 
 pub listing-example : listing exercise answer
     ≡ ascii "verdict 0 cell - lab - apprentice 7\n"
     ++ ascii "lab 34 clk 0 - ena - - aclr 1 - sclr - sload -\n"
-unfolding carryNotNext labCells occupied roomChecks exerciseGroup answerGroup cellGroup placeGroup labGroup checksTo51 checks apprenticeOf
+unfolding carryNotNext labCells occupied roomChecks exerciseGroup answerGroup cellGroup placeGroup labGroup sheetChecks checksTo51 checks apprenticeOf
     verdictOf judged counted clockPair inUse needed inLab inputs netsIn tooManyClocks tooManyPairs tooManyClears tooManySynchronous
     tooManyNets needs noWay routeOf members cell malformed driven doubleDriver feeds carryInNotFed carryOutNotReadOnce cellChecks labAt
     outOfRangeAt samePlace placeTaken earliestWay ways entryLists isWay eightBytes labRouteOf houseBoard wrongAnswerLength placedOf placedAt

@@ -2,7 +2,7 @@
 -- Assumes nothing.
 use Prim.Native.Nat.{ℕ, zero, suc, _+_, _-_, _*_, _≤_, _<_}
 use mathlib.Core.Path.{_≡_, refl, sym, ap, _∙_}
-use mathlib.Core.Bool.{Bool, true, false, _||_, or-assoc, or-true, or-false}
+use mathlib.Core.Bool.{Bool, _||_, or-assoc, or-true, or-false}
 use mathlib.Core.List.{List, [], _∷_, _++_}
 use native.Mathlib.Nat.{add-zero}
 use native.Mathlib.Numerals.{add-one}
@@ -15,10 +15,10 @@ use Rattle.sheet.specs.Lists.{concatMap, filterb, anyb, from}
 use Rattle.sheet.specs.Bytes.{byteAt}
 use Rattle.exercise.specs.Exercise.{cellCount}
 use Rattle.sheet.proofs.Laws.{by-test}
-use Rattle.route.specs.Table.{houseBoard}
 use Rattle.route.specs.Way.{earliestWay}
 use Rattle.lab_rules.specs.Rules.{needs, routeOf}
 use Rattle.placing.specs.Places.{labAt}
+use Rattle.judge.specs.Call.{Call}
 use Rattle.judge.specs.Judge.{labCells, occupied, judged, routed}
 use Rattle.judge.proofs.RouteHeld.{row-at, route-eight, written}
 use Rattle.listing.specs.passes.Writes.{Writes}
@@ -62,10 +62,11 @@ marks-from a m l i (suc k) h =
     ∙ rw (mark-one m (labAt a i) l h, or-assoc)
 
 -- no LAB is marked at first
-pub occupied-marked : (e a : List ℕ) (l : ℕ) → l < 1024 → isMarked (markedFrom a (replicate 1024 0) 0 (cellCount e)) l ≡ occupied e a l
+pub occupied-marked : (c : Call) (l : ℕ) → l < 1024
+    → isMarked (markedFrom (c .answer) (replicate 1024 0) 0 (cellCount (c .exercise))) l ≡ occupied c l
 unfolding occupied
-occupied-marked e a l h =
-    marks-from a (replicate 1024 0) l 0 (cellCount e) (rw length-replicate h) ∙ rw (getD-replicate {A = ℕ} 1024 l 0 0 h)
+occupied-marked c l h =
+    marks-from (c .answer) (replicate 1024 0) l 0 (cellCount (c .exercise)) (rw length-replicate h) ∙ rw (getD-replicate {A = ℕ} 1024 l 0 0 h)
 
 -- ---- the loop of `lab_lines`
 module _ (marks route : List ℕ) where
@@ -100,20 +101,19 @@ module _ (f g : ℕ → List ℕ) (p q : ℕ → Bool) where
       (λ y. rw (t i (omega arith), y, s i (omega arith)) (ap (λ (r : List ℕ). g i ++ r) rest))
       (λ y. rw (t i (omega arith), y) rest)
 
-module _ (e a before : List ℕ) (legal : judged houseBoard e a (length before) .number ≡ 0) where
+module _ (c : Call) (before : List ℕ) (legal : judged c .number ≡ 0) where
   abbrev route : List ℕ
-  route = routed houseBoard e a before
+  route = routed c before
 
   abbrev bytes : ℕ → List ℕ
-  bytes l = routeOf houseBoard (labCells e a l)
+  bytes l = routeOf (c .table) (labCells c l)
 
   -- byte j of LAB l in the route buffer
   byte-of : (l j : ℕ) → l < 1024 → j < 8 → byteAt route (8 * l + j) ≡ getD (bytes l) j 0
   unfolding routeOf
   byte-of l j h s =
-      rw (written houseBoard e a before legal)
-      (row-at (λ i. routeOf houseBoard (labCells e a i))
-      (λ i. route-eight (needs (labCells e a i)) (earliestWay houseBoard (needs (labCells e a i)))) 1024 l j h s)
+      rw (written c before legal)
+      (row-at bytes (λ i. route-eight (needs (labCells c i)) (earliestWay (c .table) (needs (labCells c i)))) 1024 l j h s)
 
   line-same : (l : ℕ) → l < 1024 → labLine l (rowAt route l) ≡ labLine l (bytes l)
   unfolding labLine rowAt
@@ -122,9 +122,11 @@ module _ (e a before : List ℕ) (legal : judged houseBoard e a (length before) 
       let first : byteAt route (8 * l) ≡ getD (bytes l) 0 0 = rw add-zero at (b 0 (omega arith)) in
       rw (first, b 1 (omega arith), b 2 (omega arith), b 3 (omega arith), b 4 (omega arith), b 5 (omega arith), b 6 (omega arith), b 7 (omega arith))
 
-  pub legal-lines : linesFrom (markedFrom a (replicate 1024 0) 0 (cellCount e)) route 0 1024 ≡ labLines e a
+  abbrev marks : List ℕ
+  marks = markedFrom (c .answer) (replicate 1024 0) 0 (cellCount (c .exercise))
+
+  pub legal-lines : linesFrom marks route 0 1024 ≡ labLines c
   unfolding linesFrom labLines
   legal-lines =
-      lines-same (λ l. labLine l (rowAt route l)) (λ l. labLine l (routeOf houseBoard (labCells e a l)))
-      (isMarked (markedFrom a (replicate 1024 0) 0 (cellCount e))) (occupied e a) 0 1024
-      (λ l h. line-same l (omega arith)) (λ l h. occupied-marked e a l (omega arith))
+      lines-same (λ l. labLine l (rowAt route l)) (λ l. labLine l (bytes l)) (isMarked marks) (occupied c) 0 1024
+      (λ l h. line-same l (omega arith)) (λ l h. occupied-marked c l (omega arith))

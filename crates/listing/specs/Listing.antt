@@ -1,5 +1,5 @@
 -- Document 01, "A listing in full": "One verdict line, then for a legal answer one line for each occupied LAB, rising. Each line ends in a
--- newline." `e` is the exercise, `a` the answer. Assumes nothing.
+-- newline." `c` is the call, `e` the exercise, `a` the answer. Assumes nothing.
 use Prim.Native.Nat.{ℕ}
 use mathlib.Core.Bool.{cond}
 use mathlib.Core.List.{List, [], _++_}
@@ -10,6 +10,7 @@ use Rattle.route.specs.Table.{houseBoard}
 use Rattle.lab_rules.specs.Rules.{routeOf}
 use Rattle.sheet.specs.Checks.{NONE}
 use Rattle.judge.specs.declared.Verdict.{Verdict}
+use Rattle.judge.specs.Call.{Call, call}
 use Rattle.judge.specs.Judge.{labCells, occupied, judged}
 use Rattle.listing.specs.Text.{ascii, decimal}
 
@@ -46,9 +47,16 @@ labLine l b =
     ++ ascii "\n"
 
 -- "one line for each occupied LAB, rising"
-unfoldable pub labLines : List ℕ → List ℕ → List ℕ
-labLines e a = concatMap (λ l. labLine l (routeOf houseBoard (labCells e a l))) (filterb (occupied e a) (below 1024))
+unfoldable pub labLines : Call → List ℕ
+labLines c = concatMap (λ l. labLine l (routeOf (c .table) (labCells c l))) (filterb (occupied c) (below 1024))
+
+-- the judge's call for a listing: on the board of document 01, with a route buffer of the right length
+abbrev pub listed : List ℕ → List ℕ → Call
+listed e a = call houseBoard e a 8192
 
 -- THE LISTING: "One verdict line, then for a legal answer one line for each occupied LAB, rising"
 unfoldable pub listing : List ℕ → List ℕ → List ℕ
-listing e a = let v = judged houseBoard e a 8192 in verdictLine v ++ cond (eqb (v .number) 0) (labLines e a) []
+listing e a =
+    let c = listed e a in
+    let v = judged c in
+    verdictLine v ++ cond (eqb (v .number) 0) (labLines c) []

@@ -7,6 +7,7 @@ use lib.ListN.{length}
 use denote.Ref.{now}
 use Rattle.route.specs.Table.{Table, houseBoard}
 use Rattle.judge.specs.declared.Verdict.{Verdict}
+use Rattle.judge.specs.Call.{call}
 use Rattle.judge.specs.Judge.{judged, routed}
 use Rattle.c_api.specs.Told.{sevenNumbers}
 use borrow.Author.Needs.{needs}
@@ -14,10 +15,10 @@ use Rattle.c_api.proofs.nurimkkot_judge.Statement.{statement}
 use Rattle.c_api.proofs.nurimkkot_judge.Tie as tie
 
 seven : (t : Table) (e a before after : List ℕ) (v : Verdict) (number cell lab apprentice sheet start size : ℕ) → t ≡ houseBoard
-    → v ≡ judged t e a (length before) → after ≡ routed t e a before → number ≡ v .number → cell ≡ v .cell → lab ≡ v .lab → apprentice ≡ v .apprentice
+    → v ≡ judged (call t e a (length before)) → after ≡ routed (call t e a (length before)) before → number ≡ v .number → cell ≡ v .cell → lab ≡ v .lab → apprentice ≡ v .apprentice
     → sheet ≡ cond (v .culprit .«of_answer») 1 0 → start ≡ v .culprit .start → size ≡ v .culprit .size
-    → (after ≡ routed houseBoard e a before)
-    × (number ∷ cell ∷ lab ∷ apprentice ∷ sheet ∷ start ∷ size ∷ [] ≡ sevenNumbers (judged houseBoard e a (length before)))
+    → let c = call houseBoard e a (length before) in
+    (after ≡ routed c before) × (number ∷ cell ∷ lab ∷ apprentice ∷ sheet ∷ start ∷ size ∷ [] ≡ sevenNumbers (judged c))
 seven t e a before after v number cell lab apprentice sheet start size h x y n c l p s b z = (y ∙ rw h, rw (n, c, l, p, s, b, z, x, h))
 
 returns : tie.Need-returns

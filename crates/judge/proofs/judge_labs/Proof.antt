@@ -1,4 +1,5 @@
 -- The lists by LAB give each LAB its cells; the rows are copied to the route buffer only where no LAB is broken.
+use Rattle.judge.specs.Call.{call}
 use Rattle.judge.proofs.Steps.{rows-size, whole-room, labs-stop, labs-go}
 use lib.ListN.{length}
 use denote.Ref.{now}
@@ -14,7 +15,7 @@ returns c =
     let l = p .before .before .before .before .before .before in
     let m = l .before .before .before in
     let k = m .before .before .before .before in
-    labs-stop (k .args .table) (now (k .args .exercise)) (now (k .args .answer)) (length (now (k .args .route))) (k .pre) _ _ _ (m .cell-count .ensures)
+    labs-stop (call (k .args .table) (now (k .args .exercise)) (now (k .args .answer)) (length (now (k .args .route)))) (k .pre) _ _ _ (m .cell-count .ensures)
     (l .link-cells .ensures .0) (l .link-cells .ensures .1) _ (p .route-labs .ensures .0) _ (now (k .args .route)) (omega (arith, c .if1 .taken)) refl
 
 copy-requires : tie.Need-copy-requires
@@ -24,7 +25,7 @@ copy-requires c κs =
     let m = l .before .before .before in
     let k = m .before .before .before .before in
     sym (rows-size _ _ _ _ (p .route-labs .ensures .1))
-    ∙ sym (whole-room (k .args .table) (now (k .args .exercise)) (now (k .args .answer)) (length (now (k .args .route))) (k .pre))
+    ∙ sym (whole-room (call (k .args .table) (now (k .args .exercise)) (now (k .args .answer)) (length (now (k .args .route)))) (k .pre))
 
 returns-2 : tie.Need-returns-2
 returns-2 c =
@@ -34,7 +35,7 @@ returns-2 c =
     let l = p .before .before .before .before .before .before in
     let m = l .before .before .before in
     let k = m .before .before .before .before in
-    labs-go (k .args .table) (now (k .args .exercise)) (now (k .args .answer)) (length (now (k .args .route))) (k .pre) _ _ _ (m .cell-count .ensures)
+    labs-go (call (k .args .table) (now (k .args .exercise)) (now (k .args .answer)) (length (now (k .args .route)))) (k .pre) _ _ _ (m .cell-count .ensures)
     (l .link-cells .ensures .0) (l .link-cells .ensures .1) _ (p .route-labs .ensures .0) _ (now (k .args .route)) _ _ (omega (arith, i .if1 .left))
     (c .plain .ensures) (p .route-labs .ensures .1) (o .copy .ensures)
 

@@ -1,14 +1,13 @@
 -- What the judge's stages answer from the tables that they are given. Assumes nothing.
 use Prim.Native.Nat.{ℕ}
 use mathlib.Core.Bool.{cond, not}
-use mathlib.Core.List.{List, [], _∷_}
+use mathlib.Core.List.{List}
 use lib.Dec.{eqb, ltb}
 use Rattle.sheet.specs.Lists.{firstFrom}
 use Rattle.exercise.specs.declared.Record.{Record}
 use Rattle.placing.specs.Places.{placeTaken, detachedAt}
 use Rattle.sheet.specs.Checks.{NONE}
 use Rattle.judge.specs.declared.Finding.{Finding}
-use Rattle.judge.specs.declared.Verdict.{Verdict}
 use Rattle.judge.specs.Judge.{finding, legal}
 
 -- the first place below n that g gives a number, with that number
