@@ -6,10 +6,8 @@ use mathlib.Core.Path.{_≡_, refl, sym, ap, _∙_}
 use mathlib.Core.Logic.{_⊎_, ⊎-elim}
 use mathlib.Core.Bool.{Bool, true, false, cond}
 use mathlib.Core.List.{List, [], _∷_}
-use lib.ListN.{length, getD, set, replicate, length-replicate}
+use lib.ListN.{length, set, replicate, length-replicate}
 use lib.Seq.{set-out}
-use lib.Dec.{eqb}
-use borrow.Author.Tests.{eq-eqb, ne-eqb}
 use denote.Enum.Declared.{tagOf, declared}
 use Rattle.sheet.specs.Signal.{isNet, netOf}
 use Rattle.exercise.specs.Record.{isMalformed, outputs}
@@ -17,7 +15,7 @@ use Rattle.exercise.specs.declared.RegisterCell.{RegisterCell}
 use Rattle.exercise.specs.declared.Record.{Record}
 use Rattle.exercise.specs.declared.Record.the-variants.{Combinational, Register, Malformed}
 use Rattle.exercise.proofs.Record.{enum}
-use Rattle.sheet.proofs.Laws.{passes, stops, passes-by, stops-by}
+use Rattle.sheet.proofs.Laws.{passes-by, stops-by}
 use Rattle.tables.specs.passes.Tables.{markedTwice, markEach, doubleFrom}
 
 -- ---- a store at the net of a signal: none where the signal is no net, and one past the table changes nothing
@@ -32,15 +30,6 @@ module _ (t : List ℕ) (s v : ℕ) (b : Bool) (e : b ≡ isNet s) where
   past n h k l = stops-by (isNet s) b (set t (netOf s) v) t e h (sym (set-out t (netOf s) v (rw k at l)))
 
 pub ruleset stores = (no-net, stored, past)
-
--- ---- what a read makes of the count at a net
-pub first-read : (t : List ℕ) (n m : ℕ) → n ≡ m → getD t n 0 ≡ 0 → _≡_ {A = ℕ} 1 (cond (eqb (getD t m 0) 0) 1 2)
-first-read t n m k h = stops (eqb (getD t m 0) 0) 1 2 (eq-eqb (getD t m 0) 0 (rw k at h)) refl
-
-pub next-read : (t : List ℕ) (n m : ℕ) → n ≡ m → (getD t n 0 ≡ 0 → ⊥) → _≡_ {A = ℕ} 2 (cond (eqb (getD t m 0) 0) 1 2)
-next-read t n m k h = passes (eqb (getD t m 0) 0) 1 2 (ne-eqb (getD t m 0) 0 (rw k at h)) refl
-
-pub ruleset counts = (stored, first-read, next-read)
 
 -- ---- the kinds of a cell
 pub a-cell : (d : Record) → (tagOf (declared enum) d ≡ 0) ⊎ (tagOf (declared enum) d ≡ 1) → isMalformed d ≡ false
