@@ -2,7 +2,7 @@
 use Prim.Native.Nat.{_-_, _≤_}
 use native.Mathlib.Omega.{arith}
 use native.Mathlib.Numerals.{add-one}
-use mathlib.Core.Path.{_≡_, refl}
+use mathlib.Core.Path.{_≡_, refl, _∙_}
 use lib.ListN.{length}
 use borrow.Author.Needs.{needs}
 use Rattle.tables.specs.passes.Tables.{readsBelow, readersBelow, driversBelow}
@@ -44,12 +44,12 @@ fill-tables-spec =
       rw (add-one, ← l .inv .1, ← r .known-record-at .ensures) (f .note-reads .ensures),
       rw (add-one, ← l .inv .2, ← r .known-record-at .ensures) (d .note-carry .ensures .0),
       rw (add-one, ← l .inv .3, ← r .known-record-at .ensures) (d .note-carry .ensures .1),
-      search needs,
-      search needs,
-      search needs,
+      f .note-reads .kept .0 ∙ l .inv .4,
+      d .note-carry .kept .0 ∙ l .inv .5,
+      d .note-carry .kept .1 .0 ∙ l .inv .6,
     ))  -- loop-again
-    (λ c. search needs)  -- same-length
-    (λ c. search needs)  -- same-length-2
-    (λ c. search needs)  -- same-length-3
+    (λ c. c .before .loop .inv .4)  -- same-length
+    (λ c. c .before .loop .inv .5)  -- same-length-2
+    (λ c. c .before .loop .inv .6)  -- same-length-3
     (λ c. let e : c .before .loop .i ≡ c .before .before .before .before .before .before .args .cells = omega arith in
     let v = c .before .loop .inv in (rw (← e) (v .1), (rw (← e) (v .2), rw (← e) (v .3)))))  -- returns
