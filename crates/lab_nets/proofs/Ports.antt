@@ -2,14 +2,13 @@
 use Prim.Native.Nat.{ℕ}
 use mathlib.Core.Path.{_≡_, refl, _∙_}
 use mathlib.Core.Bool.{Bool, true, false, cond}
-use mathlib.Core.List.{List, [], _∷_, map}
+use mathlib.Core.List.{List, [], _∷_, _++_, map}
 use Rattle.sheet.specs.Signal.{isNet, netOf}
 use Rattle.exercise.specs.Record.{outputs}
 use Rattle.exercise.specs.declared.Record.{Record}
 use Rattle.exercise.specs.declared.Record.the-variants.{Malformed}
 use Rattle.sheet.proofs.Laws.{by-test}
 use Rattle.distinct.specs.passes.Marks.{Use, reads, drives, mark, markAll}
-use Rattle.distinct.proofs.Nets.{mark-append}
 use Rattle.lab_nets.specs.NetsIn.{inputs, netsAt}
 use Rattle.lab_nets.specs.passes.Uses.{usesOf}
 
@@ -24,21 +23,27 @@ module _ (how : ℕ → Use) where
     unfolding markAll
     none-marked f = rw (← e, f)
 
-  -- the signals of a list, one after the other
-  abbrev pub markEach : List ℕ → List ℕ → List ℕ
-  markEach m [] = m
-  markEach m (s ∷ ss) = markEach (markAll m (map how (netsAt (s ∷ [])))) ss
+-- the marks after the reads of some signals and the drives of others
+unfoldable pub marksOf : List ℕ → List ℕ → List ℕ → List ℕ
+marksOf m ins outs = markAll m (map reads (netsAt ins) ++ map drives (netsAt outs))
 
-  pub mark-each : (m ss : List ℕ) → markAll m (map how (netsAt ss)) ≡ markEach m ss
-  unfolding markAll
-  mark-each m [] = refl
-  mark-each m (s ∷ ss) = by-test (isNet s) (λ e. rw e (mark-each (mark m (how (netOf s))) ss)) (λ e. rw e (mark-each m ss))
+-- one port after the other
+module _ (m : List ℕ) (s : ℕ) {n l : List ℕ} where
+  pub read-next : (ins outs : List ℕ) → n ≡ markAll m (map reads (netsAt (s ∷ []))) → l ≡ marksOf n ins outs → l ≡ marksOf m (s ∷ ins) outs
+  unfolding markAll marksOf
+  read-next ins outs p q = by-test (isNet s) (λ e. rw e (rw (rw e at p) at q)) (λ e. rw e (rw (rw e at p) at q))
 
-pub mark-ports : (m : List ℕ) (c : Record) → markAll m (usesOf c) ≡ markEach drives (markEach reads m (inputs c)) (outputs c)
-unfolding usesOf
-mark-ports m c =
-    mark-append m (map reads (netsAt (inputs c))) (map drives (netsAt (outputs c)))
-    ∙ rw (mark-each reads m (inputs c)) (mark-each drives (markEach reads m (inputs c)) (outputs c))
+  pub drive-next : (outs : List ℕ) → n ≡ markAll m (map drives (netsAt (s ∷ []))) → l ≡ marksOf n [] outs → l ≡ marksOf m [] (s ∷ outs)
+  unfolding markAll marksOf
+  drive-next outs p q = by-test (isNet s) (λ e. rw e (rw (rw e at p) at q)) (λ e. rw e (rw (rw e at p) at q))
+
+pub all-marked : (m : List ℕ) → m ≡ marksOf m [] []
+unfolding markAll marksOf
+all-marked m = refl
+
+pub cell-marked : (m : List ℕ) (c : Record) {l : List ℕ} → l ≡ marksOf m (inputs c) (outputs c) → l ≡ markAll m (usesOf c)
+unfolding marksOf usesOf
+cell-marked m c q = q
 
 pub no-ports : (m : List ℕ) → markAll m (usesOf Malformed) ≡ m
 unfolding usesOf inputs outputs markAll

@@ -3,23 +3,12 @@
 use borrow.Author.Needs.{needs}
 use Rattle.lab_nets.specs.NetsIn.{inputs}
 use Rattle.exercise.specs.Record.{outputs}
-use Rattle.lab_nets.proofs.Ports.{mark-ports}
+use Rattle.lab_nets.proofs.Ports.{read-next, drive-next, all-marked, cell-marked}
 use Rattle.lab_nets.proofs.mark_register.Statement.{statement}
 use Rattle.lab_nets.proofs.mark_register.Tie as tie
 
-returns : tie.Need-returns
-unfolding inputs outputs
-returns c =
-    let i7 = c .before .before in
-    let i6 = i7 .before .before in
-    let i5 = i6 .before .before in
-    let i4 = i5 .before .before in
-    let i3 = i4 .before .before in
-    let i2 = i3 .before .before in
-    let i1 = i2 .before .before in
-    rw (mark-ports, c .mark-output .ensures, i7 .mark-input7 .ensures, i6 .mark-input6 .ensures, i5 .mark-input5 .ensures, i4 .mark-input4 .ensures, i3 .mark-input3 .ensures, i2 .mark-input2 .ensures, i1 .mark-input .ensures)
-
 pub mark-register-spec : {M : Type 1} → statement M
+unfolding inputs outputs
 mark-register-spec =
     tie.close
     (tie.spec
@@ -31,4 +20,20 @@ mark-register-spec =
     (λ c κs. search needs)  -- mark-input-requires-6
     (λ c κs. search needs)  -- mark-input-requires-7
     (λ c κs. search needs)  -- mark-output-requires
-    returns)
+    (λ c.
+    let i7 = c .before .before in
+    let i6 = i7 .before .before in
+    let i5 = i6 .before .before in
+    let i4 = i5 .before .before in
+    let i3 = i4 .before .before in
+    let i2 = i3 .before .before in
+    let i1 = i2 .before .before in
+    cell-marked _ _
+    (read-next _ _ _ _ (i1 .mark-input .ensures)
+    (read-next _ _ _ _ (i2 .mark-input2 .ensures)
+    (read-next _ _ _ _ (i3 .mark-input3 .ensures)
+    (read-next _ _ _ _ (i4 .mark-input4 .ensures)
+    (read-next _ _ _ _ (i5 .mark-input5 .ensures)
+    (read-next _ _ _ _ (i6 .mark-input6 .ensures)
+    (read-next _ _ _ _ (i7 .mark-input7 .ensures)
+    (drive-next _ _ _ (c .mark-output .ensures) (all-marked _)))))))))))  -- returns
