@@ -20,6 +20,7 @@ use Rattle.distinct.specs.passes.Marks.{Use, reads, drives, netsRead, markRead,
 use Rattle.route.specs.Table.{Table}
 use Rattle.lab_nets.specs.NetsIn.{inputs, netsAt}
 use Rattle.lab_nets.specs.passes.Uses.{usesOf, markCells}
+use Rattle.lab_rules.specs.Rules.{MAX_NETS_IN}
 use Rattle.lab_rules.specs.passes.Counts.{noCounts, countsAll, brokenBy, resultFrom}
 use Rattle.lab_rules.specs.declared.Counts.{Counts}
 use Rattle.lab_rules.specs.declared.LabResult.{LabResult}
@@ -85,9 +86,9 @@ reads-most [] = omega arith
 reads-most (c ∷ cs) = omega (arith, reads-then (netsAt (inputs c)) (netsAt (outputs c)) (concatMap usesOf cs), nets-most c, reads-most cs)
 
 -- ---- the result
-nets-few : (t : Table) (k : Counts) (n : ℕ) → n ≤ 38 → resultFrom t k n ≡ resultFrom t k 0
+nets-few : (t : Table) (k : Counts) (n : ℕ) → n ≤ MAX_NETS_IN → resultFrom t k n ≡ resultFrom t k 0
 unfolding resultFrom brokenBy
-nets-few t k n h = rw (le-ltb 38 n h)
+nets-few t k n h = rw (le-ltb MAX_NETS_IN n h)
 
 few-reads : (t : Table) (k : Counts) (z : List ℕ) (cs : List Record) → readMarks z ≡ 0 → length cs ≤ 5 → resultFrom t k (readMarks (markCells z cs)) ≡ resultFrom t k 0
 unfolding markCells

@@ -8,22 +8,24 @@ use native.Mathlib.Omega.{arith}
 use denote.Enum.Declared.{tagOf}
 use lib.ListN.{length, length-append, length-map}
 use lib.Dec.{eqb, ltb}
-use Rattle.sheet.specs.Signal.{isNet}
+use Rattle.sheet.specs.Signal.{VCC, connected, isNet}
+use Rattle.exercise.specs.declared.RegisterCell.{RegisterCell}
 use Rattle.exercise.specs.declared.Record.{Record}
 use Rattle.exercise.specs.declared.Record.the-variants.{Combinational, Register, Malformed}
 use Rattle.exercise.proofs.Record.{the-type}
 use Rattle.sheet.proofs.Laws.{by-test}
 use Rattle.sheet.proofs.Lists.{filter-length}
 use Rattle.distinct.specs.declared.UpToTwo.{UpToTwo}
-use Rattle.distinct.specs.passes.UpToTwo.{withCodes, codesOf}
+use Rattle.distinct.specs.passes.UpToTwo.{withCode, withCodes, codesOf}
 use Rattle.route.specs.declared.Need.{Need}
 use Rattle.route.specs.declared.Needs.{Needs}
 use Rattle.route.specs.declared.LabRoute.{LabRoute}
-use Rattle.route.specs.Table.{Table, withNeed, needList, needsOf, noNeeds}
+use Rattle.route.specs.Table.{Table, CLK, ENA, ACLR, SCLR, SLOAD, withNeed, needList, needsOf, noNeeds}
 use Rattle.route.specs.Way.{earliestWay}
 use Rattle.route.specs.Route.{labRouteOf}
 use Rattle.route.proofs.NeedLists.{no-needs-of, list-needs, with-need}
 use Rattle.lab_rules.specs.declared.Counts.{Counts}
+use Rattle.lab_rules.specs.Ports.{clk, ena, sclr, sload, used, counted, clock, clockPair, clear, pair, inUse, needed}
 use Rattle.lab_rules.specs.Rules.{needsOfRole}
 use Rattle.lab_rules.specs.passes.Counts.{countsWith, netCodes, onlyCode, brokenBy, withNeeds, needsHeld, routedResult, resultFrom}
 
@@ -31,6 +33,47 @@ use Rattle.lab_rules.specs.passes.Counts.{countsWith, netCodes, onlyCode
 pub with-cond : (d : UpToTwo) (b : Bool) (xs ys : List ℕ) → withCodes d (cond b xs ys) ≡ cond b (withCodes d xs) (withCodes d ys)
 with-cond d true xs ys = refl
 with-cond d false xs ys = refl
+
+-- what counts at a port: its signal, or the default where it is unconnected and the register is used
+module _ (port : RegisterCell → ℕ) (default : ℕ) (r : RegisterCell) {u : Bool} (q : u ≡ used r) where
+  pub counted-there : (d : UpToTwo) {l : UpToTwo} → l ≡ withCodes d (cond (connected (port r)) (port r ∷ []) (cond u (default ∷ []) [])) → l ≡ withCodes d (counted port default r)
+  unfolding counted
+  counted-there d h = rw (← q) h
+
+  counted-open : {b : Bool} → b ≡ connected (port r) → b ≡ false → u ≡ true → counted port default r ≡ default ∷ []
+  unfolding counted
+  counted-open k f t = rw (← k, f, ← q, t) refl
+
+  counted-not : {b : Bool} → b ≡ connected (port r) → b ≡ false → u ≡ false → counted port default r ≡ []
+  unfolding counted
+  counted-not k f n = rw (← k, f, ← q, n) refl
+
+-- the pair of a register: its clk is connected, counts as the default, or does not count
+module _ (d : UpToTwo) (r : RegisterCell) {e : ℕ} (q : e ≡ cond (connected (ena r)) (ena r) VCC) {b : Bool} (k : b ≡ connected (clk r)) where
+  pub pair-of-clk : {p : ℕ} {l : UpToTwo} → b ≡ true → p ≡ pair (clk r) e → l ≡ withCode d p → l ≡ withCodes d (clockPair r)
+  unfolding withCodes clockPair counted
+  pair-of-clk t h g = rw (← k, t, ← q, ← h) g
+
+  module _ (default : ℕ) (c : clock r ≡ counted clk default r) {u : Bool} (f : b ≡ false) (v : u ≡ used r) where
+    pub pair-of-default : {p : ℕ} {l : UpToTwo} → u ≡ true → p ≡ pair default e → l ≡ withCode d p → l ≡ withCodes d (clockPair r)
+    unfolding withCodes clockPair
+    pair-of-default t h g = rw (c, counted-open clk default r v k f t, ← q, ← h) g
+
+    pub pair-of-none : u ≡ false → d ≡ withCodes d (clockPair r)
+    unfolding withCodes clockPair
+    pair-of-none n = rw (c, counted-not clk default r v k f n) refl
+
+-- each counter takes what its own port gives
+module _ (k : Counts) (r : RegisterCell) {a b d s l e : UpToTwo} where
+  pub register-counted : a ≡ withCodes (k .clocks) (clock r)
+      → b ≡ withCodes (k .pairs) (clockPair r)
+      → d ≡ withCodes (k .clears) (clear r)
+      → s ≡ withCodes (k .«sync_clears») (inUse sclr r)
+      → l ≡ withCodes (k .«sync_loads») (inUse sload r)
+      → e ≡ withCodes (k .enables) (needed ena r)
+      → _≡_ {A = Counts} (record { clocks = a; pairs = b; clears = d; «sync_clears» = s; «sync_loads» = l; enables = e }) (countsWith k (Register r))
+  unfolding countsWith
+  register-counted h₁ h₂ h₃ h₄ h₅ h₆ = rw (h₁, h₂, h₃, h₄, h₅, h₆) refl
 
 -- to a cell that is no register nothing counts
 pub no-register : (k : Counts) (c : Record) → (tagOf the-type c ≡ 0) ⊎ (tagOf the-type c ≡ 2) → k ≡ countsWith k c
@@ -41,7 +84,7 @@ no-register k (Combinational c) h = refl
 no-register k Malformed h = refl
 
 -- ---- needs
-pub needs-append : (n : Needs) (xs ys : List Need) → withNeeds n (xs ++ ys) ≡ withNeeds (withNeeds n xs) ys
+needs-append : (n : Needs) (xs ys : List Need) → withNeeds n (xs ++ ys) ≡ withNeeds (withNeeds n xs) ys
 unfolding withNeeds
 needs-append n [] ys = refl
 needs-append n (x ∷ xs) ys = needs-append (withNeed n x) xs ys
@@ -87,8 +130,20 @@ held-fits k =
       only-length (k .«sync_loads»),
     ))
 
-pub held-of : (k : Counts) → withNeeds noNeeds (needsHeld k) ≡ needsOf (needsHeld k)
+held-of : (k : Counts) → withNeeds noNeeds (needsHeld k) ≡ needsOf (needsHeld k)
 held-of k = rw no-needs-of (needs-of [] (needsHeld k) (omega (arith, held-fits k)))
+
+-- the needs of each role after those of the roles before it
+module _ (k : Counts) {n₀ n₁ n₂ n₃ n₄ n₅ : Needs} where
+  pub needs-are : n₀ ≡ noNeeds
+      → n₁ ≡ withNeeds n₀ (needsOfRole CLK (netCodes (codesOf (k .clocks))))
+      → n₂ ≡ withNeeds n₁ (needsOfRole ENA (netCodes (codesOf (k .enables))))
+      → n₃ ≡ withNeeds n₂ (needsOfRole ACLR (netCodes (codesOf (k .clears))))
+      → n₄ ≡ withNeeds n₃ (needsOfRole SCLR (netCodes (onlyCode (k .«sync_clears»))))
+      → n₅ ≡ withNeeds n₄ (needsOfRole SLOAD (netCodes (onlyCode (k .«sync_loads»))))
+      → n₅ ≡ needsOf (needsHeld k)
+  unfolding needsHeld
+  needs-are h₀ h₁ h₂ h₃ h₄ h₅ = rw (← held-of k) (simp needs-append (rw (h₅, h₄, h₃, h₂, h₁, h₀) refl))
 
 -- where no rule of 60 to 64 is broken, the route of the needs that are held decides
 pub held-result : (t : Table) (k : Counts) (nets : ℕ) (n : Needs) {r : LabRoute} → brokenBy k nets ≡ 0 → n ≡ needsOf (needsHeld k) → r ≡ labRouteOf (needList n) (earliestWay t (needList n)) → resultFrom t k nets ≡ routedResult r

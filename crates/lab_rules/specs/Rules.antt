@@ -35,9 +35,13 @@ tooManyClears cs = ltb 2 (distinct (inLab clear cs))
 unfoldable pub tooManySynchronous : List Record → Bool
 tooManySynchronous cs = ltb 1 (distinct (inLab (inUse sclr) cs)) || ltb 1 (distinct (inLab (inUse sload) cs))
 
+-- "more than 38 distinct nets"
+abbrev pub MAX_NETS_IN : ℕ
+MAX_NETS_IN = 38
+
 -- 64: "more than 38 distinct nets read .."
 unfoldable pub tooManyNets : List Record → Bool
-tooManyNets cs = ltb 38 (length (netsIn cs))
+tooManyNets cs = ltb MAX_NETS_IN (length (netsIn cs))
 
 -- the needs of one role: "rising signal code"
 abbrev pub needsOfRole : ℕ → List ℕ → List Need

@@ -1,6 +1,8 @@
 -- `lab_rules::broken_by` meets its contract: its tests are the checks of the definition, in their order.
 -- Assumes nothing.
-use Rattle.sheet.proofs.Laws.{tested}
+use mathlib.Core.Path.{refl}
+use borrow.Author.Tests.{lt-ltb, le-ltb}
+use Rattle.lab_rules.specs.Rules.{MAX_NETS_IN}
 use Rattle.lab_rules.specs.passes.Counts.{brokenBy}
 use Rattle.lab_rules.proofs.broken_by.Statement.{statement}
 use Rattle.lab_rules.proofs.broken_by.Tie as tie
@@ -10,9 +12,32 @@ unfolding brokenBy
 broken-by-spec =
     tie.close
     (tie.spec
-    (λ c. search tested depth 20)  -- returns
-    (λ c. search tested depth 20)  -- returns-2
-    (λ c. search tested depth 20)  -- returns-3
-    (λ c. search tested depth 20)  -- returns-4
-    (λ c. search tested depth 20)  -- returns-5
-    (λ c. search tested depth 20))  -- returns-6
+    (λ c. rw (lt-ltb _ _ (c .if1 .taken)) refl)  -- returns
+    (λ c. rw (le-ltb _ _ (c .before .before .if1 .left), lt-ltb _ _ (c .if2 .taken)) refl)  -- returns-2
+    (λ c.
+    let b = c .before .before in
+    rw (le-ltb _ _ (b .before .before .if1 .left), le-ltb _ _ (b .if2 .left), lt-ltb _ _ (c .if3 .taken)) refl)  -- returns-3
+    (λ c.
+    let d = c .before .before .before in
+    let b = d .before .before in
+    rw (le-ltb _ _ (b .before .before .if1 .left), le-ltb _ _ (b .if2 .left), le-ltb _ _ (d .if3 .left), c .if4 .taken) refl)  -- returns-4
+    (λ c.
+    let d = c .before .before .before .before in
+    let b = d .before .before in
+    rw (
+      le-ltb _ _ (b .before .before .if1 .left),
+      le-ltb _ _ (b .if2 .left),
+      le-ltb _ _ (d .if3 .left),
+      c .before .if4 .left,
+      lt-ltb MAX_NETS_IN _ (c .if5 .taken),
+    ) refl)  -- returns-5
+    (λ c.
+    let d = c .before .before .before .before in
+    let b = d .before .before in
+    rw (
+      le-ltb _ _ (b .before .before .if1 .left),
+      le-ltb _ _ (b .if2 .left),
+      le-ltb _ _ (d .if3 .left),
+      c .before .if4 .left,
+      le-ltb MAX_NETS_IN _ (c .if5 .left),
+    ) refl))  -- returns-6

@@ -25,7 +25,7 @@ use Rattle.lab_nets.specs.NetsIn.{inputs}
 use Rattle.lab_rules.specs.declared.Counts.{Counts}
 use Rattle.lab_rules.specs.declared.LabResult.{LabResult}
 use Rattle.lab_rules.specs.Ports.{clk, ena, aclr, sclr, sload, clock, clockPair, clear, inUse, needed, ofRegister, inLab}
-use Rattle.lab_rules.specs.Rules.{needsOfRole}
+use Rattle.lab_rules.specs.Rules.{MAX_NETS_IN, needsOfRole}
 
 abbrev pub noCounts : Counts
 noCounts = record { clocks = noCode; pairs = noCode; clears = noCode; «sync_clears» = noCode; «sync_loads» = noCode; enables = noCode }
@@ -65,7 +65,7 @@ brokenBy k nets =
     ∷ check 61 (ltb 2 (k .pairs .count))
     ∷ check 62 (ltb 2 (k .clears .count))
     ∷ check 63 (ltb 1 (k .«sync_clears» .count) || ltb 1 (k .«sync_loads» .count))
-    ∷ check 64 (ltb 38 nets)
+    ∷ check 64 (ltb MAX_NETS_IN nets)
     ∷ [])
 
 -- the codes that are nets

@@ -1,13 +1,13 @@
 -- `lab_rules::Counts::with_register` meets its contract: each counter takes what its own port gives.
 -- Assumes nothing.
 use borrow.Author.Needs.{needs}
-use Rattle.lab_rules.specs.Ports.{counted, inUse, needed}
-use Rattle.lab_rules.specs.passes.Counts.{countsWith}
+use Rattle.lab_rules.specs.Ports.{clk, aclr, inUse, needed}
+use Rattle.lab_rules.proofs.Steps.{counted-there, register-counted}
 use Rattle.lab_rules.proofs.Counts.with_register.Statement.{statement}
 use Rattle.lab_rules.proofs.Counts.with_register.Tie as tie
 
 pub with-register-spec : {M : Type 1} → statement M
-unfolding countsWith counted inUse needed
+unfolding inUse needed
 with-register-spec =
     tie.close
     (tie.spec
@@ -18,4 +18,16 @@ with-register-spec =
     (λ c κs. search needs)  -- with-in-use-requires
     (λ c κs. search needs)  -- with-in-use-requires-2
     (λ c κs. search needs)  -- with-net-requires
-    (λ c. let l = c .before .before in let k = l .before .before in rw (c .with-net .ensures, c .before .with-in-use2 .ensures, l .with-in-use .ensures, l .before .with-counted2 .ensures, k .with-pair .ensures, k .before .with-counted .ensures, k .before .before .is-connected .ensures)))  -- returns
+    (λ c.
+    let l = c .before .before in
+    let k = l .before .before in
+    let u = k .before .before in
+    let a = u .before .args in
+    let used = u .is-connected .ensures in
+    register-counted (a .self) (a .cell)
+    (counted-there clk _ (a .cell) used (a .self .clocks) (k .before .with-counted .ensures))
+    (k .with-pair .ensures)
+    (counted-there aclr _ (a .cell) used (a .self .clears) (l .before .with-counted2 .ensures))
+    (l .with-in-use .ensures)
+    (c .before .with-in-use2 .ensures)
+    (c .with-net .ensures)))  -- returns
