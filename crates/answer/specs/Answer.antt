@@ -83,7 +83,3 @@ placedNumber OutOfRange = 26
 abbrev pub placedValues : Placed → List ℕ
 placedValues (At p) = placeValues p
 placedValues OutOfRange = []
-
--- "LAB number (32y + x)"
-abbrev pub labOf : Place → ℕ
-labOf p = 32 * p .y + p .x

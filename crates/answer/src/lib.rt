@@ -5,7 +5,7 @@ ghost use mathlib.Core.List.{[]};
 ghost use Prim.Native.Nat.{_<_, _^_, min};
 ghost use lib.ListN.{length};
 ghost use Rattle.sheet.specs.Bytes.{u32At, beginsAt};
-ghost use Rattle.answer.specs.Answer.{apprentice, placeCount, wrongAnswerLength, answerNumber, openingNumber, placedOf, placedAt, placedNumber, placedValues, breaksPlace, placeFields, placeStart, placePart, labOf};
+ghost use Rattle.answer.specs.Answer.{apprentice, placeCount, wrongAnswerLength, answerNumber, openingNumber, placedOf, placedAt, placedNumber, placedValues, breaksPlace, placeFields, placeStart, placePart};
 
 // The header: where its numbers stand, and its size.
 const APPRENTICE_AT: usize = 5;
@@ -144,13 +144,4 @@ pub fn place_at(answer: &[u8], cell: CellNumber) -> Placed
     ensures values { λ r. ⌜ placedValues r ≡ cond (breaksPlace (placePart (now (answer .entry)) (cell .0))) [] (placeFields (placePart (now (answer .entry)) (cell .0))) ⌝ }
 {
     decode_place(place_part(answer, cell))
-}
-
-impl Place {
-    // The LAB's number.
-    pub fn lab(self) -> u16
-        ensures { λ r. ⌜ r ≡ labOf self ⌝ }
-    {
-        32 * (self.y as u16) + (self.x as u16)
-    }
 }

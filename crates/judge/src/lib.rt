@@ -298,7 +298,7 @@ fn record_of(cell: CellNumber) -> Part
 {
     Part {
         of_answer: false,
-        start: exercise::EXERCISE_HEADER + exercise::RECORD_SIZE * (cell.0 as usize),
+        start: exercise::record_start(cell),
         size: exercise::RECORD_SIZE,
     }
 }
@@ -308,7 +308,7 @@ fn place_of(cell: CellNumber) -> Part
 {
     Part {
         of_answer: true,
-        start: answer::ANSWER_HEADER + answer::PLACE_SIZE * (cell.0 as usize),
+        start: answer::place_start(cell),
         size: answer::PLACE_SIZE,
     }
 }
