@@ -1,6 +1,7 @@
 pub mod Linked
 pub mod Linking
 pub mod Taking
+pub mod Same
 pub mod Short
 pub mod Filling
 pub mod Passing

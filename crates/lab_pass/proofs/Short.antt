@@ -23,10 +23,9 @@ use Rattle.lab_nets.specs.passes.Uses.{usesOf, markCells}
 use Rattle.lab_rules.specs.Rules.{MAX_NETS_IN}
 use Rattle.lab_rules.specs.passes.Counts.{noCounts, countsAll, brokenBy, resultFrom}
 use Rattle.lab_rules.specs.declared.Counts.{Counts}
-use Rattle.lab_rules.specs.declared.LabResult.{LabResult}
 use Rattle.sheet.specs.Checks.{NONE}
 use Rattle.lab_pass.specs.passes.Links.{walk}
-use Rattle.lab_pass.specs.passes.Results.{markedIf, resultOf}
+use Rattle.lab_pass.specs.passes.Results.{markedIf, resultOf, Tells}
 use Rattle.lab_pass.proofs.Taking.{no-marks}
 
 -- ---- marks
@@ -102,15 +101,14 @@ short-is t get is h =
     let cs = map get is in
     sym (few-reads t (countsAll noCounts cs) (replicate 1024 0) cs (no-marks 1024) (rw (length-map is get) h))
 
--- a short list's result, and a longer one's
-module _ (t : Table) (get : ℕ → Record) (is : List ℕ) (counts : Counts) (k : counts ≡ countsAll noCounts (map get is)) {r : LabResult} where
-  pub short-result : (b : Bool) → b ≡ leb (length is) 5 → b ≡ true → r ≡ resultFrom t counts 0 → r ≡ resultOf t get is
-  short-result b q h p = p ∙ rw k (short-is t get is (leb-true (length is) 5 (sym q ∙ h)))
+-- what a short list tells, and a longer one
+module _ (get : ℕ → Record) (is : List ℕ) (counts : Counts) (k : counts ≡ countsAll noCounts (map get is)) where
+  pub short-tells : (b : Bool) → b ≡ leb (length is) 5 → b ≡ true → Tells get is counts 0
+  short-tells b q h = record { told = λ t. rw k (short-is t get is (leb-true (length is) 5 (sym q ∙ h))) }
 
-  pub long-result : (marks : List ℕ) (m : ℕ) → marks ≡ markedIf true (replicate 1024 0) (map get is) → m ≡ readMarks marks → r ≡ resultFrom t counts m
-      → r ≡ resultOf t get is
+  pub long-tells : (marks : List ℕ) (m : ℕ) → marks ≡ markedIf true (replicate 1024 0) (map get is) → m ≡ readMarks marks → Tells get is counts m
   unfolding resultOf markedIf
-  long-result marks m q z p = p ∙ rw (k, z, q)
+  long-tells marks m q z = record { told = λ t. rw (k, z, q) }
 
 -- ---- the loop
 -- the first k cells of the list are passed

@@ -70,7 +70,7 @@ unfolding readMarks
 no-marks zero = refl
 no-marks (suc n) = no-marks n
 
-nothing-broken : (t : Table) (m : ℕ) → m ≡ 0 → resultFrom t noCounts m ≡ record { number = 0; bytes = replicate 8 255 }
+pub nothing-broken : (t : Table) (m : ℕ) → m ≡ 0 → resultFrom t noCounts m ≡ record { number = 0; bytes = replicate 8 255 }
 unfolding resultFrom brokenBy needsHeld codesOf onlyCode labRouteOf eightBytes
 nothing-broken t m z = rw (z, no-needs t)
 

@@ -1,3 +1,4 @@
+use distinct::UpToTwo;
 use exercise::Record;
 use lab_rules::Counts;
 use lab_rules::LabResult;
@@ -11,10 +12,10 @@ ghost use lib.ListN.{length, getD, set};
 ghost use lib.Dec.{leb};
 ghost use Rattle.exercise.specs.passes.Known.{knownAt};
 ghost use Rattle.distinct.specs.passes.Marks.{markAll};
+ghost use Rattle.lab_rules.specs.passes.Counts.{noCounts, countsAll, resultFrom};
 ghost use Rattle.lab_nets.specs.passes.Uses.{usesOf};
-ghost use Rattle.lab_rules.specs.passes.Counts.{noCounts, countsAll};
 ghost use Rattle.lab_pass.specs.passes.Links.{Links, link, linkBelow, walk};
-ghost use Rattle.lab_pass.specs.passes.Results.{markedIf, resultOf, resultAt, hasCells, lowestBroken, putRow, putRows};
+ghost use Rattle.lab_pass.specs.passes.Results.{markedIf, sameCodes, sameCounts, sameCounted, Tells, resultAt, hasCells, lowestBroken, putRow, putRows};
 
 // The number of LABs.
 pub const LABS: u16 = 1024;
@@ -23,6 +24,18 @@ pub const LABS: u16 = 1024;
 pub struct LowestBroken {
     pub lab: u16,
     pub number: u8,
+}
+
+// The counts of a LAB's registers and its number of nets in.
+struct Counted {
+    counts: Counts,
+    nets: u16,
+}
+
+// Counts and nets in, with the result of a LAB that has them.
+struct Solved {
+    counted: Counted,
+    result: LabResult,
 }
 
 // Puts every cell into the list of its LAB, rising: `first` has a LAB's first cell, `next` the next cell of the same LAB.
@@ -91,7 +104,7 @@ fn mark_if(marking: bool, marks: &mut [u8; 1024], cell: Record)
     }
 }
 
-// The walk over the list that begins with a cell: counts its cells, and marks their nets where they are to be marked.
+// The walk over the list that begins with a cell: counts its registers, and marks the nets of all its cells where they are to be marked.
 fn count_cells(
     exercise: &[u8],
     next: &[u16],
@@ -110,32 +123,72 @@ fn count_cells(
             return counts;
         }
         let cell = exercise::known_record_at(exercise, CellNumber(at));
-        counts = counts.with(cell);
         mark_if(marking, marks, cell);
         at = entry(next, at as usize);
         k += 1;
+        let Record::Register(_) = cell else {
+            continue;
+        };
+        counts = counts.with(cell);
     }
     counts
 }
 
-// The result of the LAB whose list begins with a cell. Five cells read 35 nets at the most and keep 64, so only a longer list needs the marks;
-// whatever they hold, they are room to work in.
-fn result_from(
-    table: EntryTable,
-    exercise: &[u8],
-    next: &[u16],
-    start: u16,
-    marks: &mut [u8; 1024],
-) -> LabResult
-    ensures { λ r. ⌜ r ≡ resultOf table (knownAt (now (exercise .entry))) (walk (now (next .entry)) start 512) ⌝ }
+// The counts and the nets in of the list that begins with a cell. Five cells read 35 nets at the most and keep 64, so only a longer list needs the
+// marks, and a short one has 0 here; whatever the marks hold, they are room to work in.
+fn counted_from(exercise: &[u8], next: &[u16], start: u16, marks: &mut [u8; 1024]) -> Counted
+    ensures { λ r. ⌜ Tells (knownAt (now (exercise .entry))) (walk (now (next .entry)) start 512) (r .counts) (r .nets) ⌝ }
 {
     if is_short(next, start) {
         let counts = count_cells(exercise, next, start, false, marks);
-        return lab_rules::lab_result(table, counts, 0);
+        return Counted { counts, nets: 0 };
     }
     *marks = [0u8; 1024];
     let counts = count_cells(exercise, next, start, true, marks);
-    lab_rules::lab_result(table, counts, distinct::count_read(marks))
+    let nets = distinct::count_read(marks);
+    Counted { counts, nets }
+}
+
+// Whether two counters hold the same, and whether all counters do.
+fn same_codes(a: UpToTwo, b: UpToTwo) -> bool
+    ensures { λ r. ⌜ r ≡ sameCodes a b ⌝ }
+{
+    let count = a.count == b.count;
+    let low = a.low == b.low;
+    let high = a.high == b.high;
+    count & low & high
+}
+
+fn same_counts(a: Counts, b: Counts) -> bool
+    ensures { λ r. ⌜ r ≡ sameCounts a b ⌝ }
+{
+    same_codes(a.clocks, b.clocks)
+        & same_codes(a.pairs, b.pairs)
+        & same_codes(a.clears, b.clears)
+        & same_codes(a.sync_clears, b.sync_clears)
+        & same_codes(a.sync_loads, b.sync_loads)
+        & same_codes(a.enables, b.enables)
+}
+
+// Whether the counts and the nets in are those.
+fn same_counted(a: Counted, b: Counted) -> bool
+    ensures { λ r. ⌜ r ≡ sameCounted a b ⌝ }
+{
+    let nets = a.nets == b.nets;
+    same_counts(a.counts, b.counts) & nets
+}
+
+// The result of a LAB: that of the LAB before where the counts and the nets in are the same.
+fn solve(table: EntryTable, counted: Counted, before: Solved) -> Solved
+    requires { ⌜ before .result ≡ resultFrom table (before .counted .counts) (before .counted .nets) ⌝ }
+    ensures solved { λ r. ⌜ r .result ≡ resultFrom table (counted .counts) (counted .nets) ⌝ }
+    ensures kept { λ r. ⌜ r .result ≡ resultFrom table (r .counted .counts) (r .counted .nets) ⌝ }
+{
+    if same_counted(counted, before.counted) {
+        return before;
+    }
+    let result = lab_rules::lab_result(table, counted.counts, counted.nets);
+    Solved { counted, result }
 }
 
 // Puts a LAB's eight route bytes into the rows.
@@ -166,6 +219,15 @@ pub fn route_labs(
     ensures found { λ r. ⌜ r ≡ lowestBroken table (knownAt (now (exercise .entry))) (now (first .entry)) (now (next .entry)) ⌝ }
     ensures written { λ r. ⌜ now (rows .exit) ≡ putRows (hasCells (now (first .entry)) (now (next .entry))) (λ l. resultAt table (knownAt (now (exercise .entry))) (now (first .entry)) (now (next .entry)) l .bytes) (now (rows .entry)) (r .lab) ⌝ }
 {
+    let idle = Counted {
+        counts: Counts::none(),
+        nets: 0,
+    };
+    let result = lab_rules::lab_result(table, idle.counts, 0);
+    let mut solved = Solved {
+        counted: idle,
+        result,
+    };
     let mut marks = [0u8; 1024];
     let mut lab: u16 = 0;
     while lab < LABS {
@@ -174,7 +236,14 @@ pub fn route_labs(
             lab += 1;
             continue;
         }
-        let result = result_from(table, exercise, next, start, &mut marks);
+        let counted = counted_from(exercise, next, start, &mut marks);
+        if same_counted(counted, idle) {
+            put_row(rows, lab, [255u8; 8]);
+            lab += 1;
+            continue;
+        }
+        solved = solve(table, counted, solved);
+        let result = solved.result;
         let number = result.number;
         if number != 0 {
             return LowestBroken { lab, number };

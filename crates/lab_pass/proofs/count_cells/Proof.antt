@@ -1,9 +1,11 @@
--- `labs::count_cells` meets its contract. The loop's invariant: the counts and the marks, with the cells that are left of the list, are those of the
--- whole list. Both `return`s stand where no cell is left. Assumes nothing.
+-- The loop's invariant: the counts and the marks, with the cells that are left of the list, are those of the whole list. To a cell that is no register
+-- no port counts. Both `return`s stand where no cell is left.
+use mathlib.Core.Logic.{⊎-elim}
 use Rattle.exercise.specs.passes.Known.{knownAt}
 use borrow.Author.Needs.{needs}
 use Prim.Native.Nat.{_-_, _<_}
 use native.Mathlib.Omega.{arith}
+use Rattle.lab_rules.proofs.Steps.{no-register}
 use Rattle.lab_pass.proofs.Linked.{walk-past}
 use Rattle.lab_pass.proofs.Taking.{Taken, take-starts, take-goes, take-ends, walk-all}
 use Rattle.lab_pass.proofs.count_cells.Statement.{statement}
@@ -23,13 +25,26 @@ returns c =
 
 loop-again : tie.Need-loop-again Inv-loop μ-loop
 loop-again c =
-    let m = c .before in
-    let w = m .before .before in
-    let r = w .before in
+    let e = c .before in
+    let m = e .before in
+    let r = m .before .before in
     let i = r .before in
     let l = i .before .before in (
       take-goes _ _ 512 _ _ _ _ _ _ (l .loop .k) (l .loop .inv .0) _ _ _ _ (omega (arith, i .before .loop-test .taken)) (i .if1 .left)
-          (r .known-record-at .ensures) (w .with .ensures) (m .mark-if .ensures) (c .entry .ensures),
+          (r .known-record-at .ensures) (no-register _ _ (λ t. ⊎-elim (λ w. omega arith) (λ w. omega arith) (c .match .keys2))) (m .mark-if .ensures)
+          (e .entry .ensures),
+      omega arith,
+    )
+
+loop-again-2 : tie.Need-loop-again-2 Inv-loop μ-loop
+loop-again-2 c =
+    let e = c .before .before .before in
+    let m = e .before in
+    let r = m .before .before in
+    let i = r .before in
+    let l = i .before .before in (
+      take-goes _ _ 512 _ _ _ _ _ _ (l .loop .k) (l .loop .inv .0) _ _ _ _ (omega (arith, i .before .loop-test .taken)) (i .if1 .left)
+          (r .known-record-at .ensures) (c .with .ensures) (m .mark-if .ensures) (e .entry .ensures),
       omega arith,
     )
 
@@ -44,13 +59,16 @@ count-cells-spec =
     (λ c. search needs)  -- cast-if1
     returns
     (λ c κs. search needs)  -- known-record-at-requires
-    (λ c κs. search needs)  -- with-requires
     (λ c κs. search needs)  -- mark-if-requires
     (λ c. search needs)  -- cast-entry
     (λ c κs. search needs)  -- entry-requires
     (λ c. search needs)  -- add-k
+    (λ c. search needs)  -- enum-told
     (λ c. search needs)  -- loop-less
     loop-again
+    (λ c κs. search needs)  -- with-requires
+    (λ c. search needs)  -- loop-less-2
+    loop-again-2
     (λ c.
     let l = c .before .loop in
     take-ends _ _ _ _ _ _ _ _ _ _ (l .inv .0) (walk-all _ (l .at) 512 (l .k) (omega (arith, c .loop-test .left)))))  -- returns-2

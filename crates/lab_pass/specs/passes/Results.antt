@@ -1,7 +1,8 @@
 -- The result of each LAB from the lists of cells, and the rows of route bytes. `t` is the entry table, `cell` gives what each
 -- cell's record says. Assumes nothing.
 use Prim.Native.Nat.{ℕ, zero, suc, _+_, _*_}
-use mathlib.Core.Bool.{Bool, cond, not}
+use mathlib.Core.Path.{_≡_}
+use mathlib.Core.Bool.{Bool, cond, not, _&&_}
 use mathlib.Core.List.{List, map}
 use lib.ListN.{length, getD, set, replicate}
 use lib.Dec.{eqb, ltb}
@@ -12,9 +13,12 @@ use Rattle.route.specs.Table.{Table}
 use Rattle.lab_nets.specs.passes.Uses.{markCells}
 use Rattle.lab_rules.specs.passes.Counts.{noCounts, countsAll, resultFrom}
 use Rattle.lab_rules.specs.declared.LabResult.{LabResult}
+use Rattle.lab_rules.specs.declared.Counts.{Counts}
+use Rattle.distinct.specs.declared.UpToTwo.{UpToTwo}
 use Rattle.sheet.specs.Checks.{NONE}
 use Rattle.lab_pass.specs.passes.Links.{walk}
 use Rattle.lab_pass.specs.declared.LowestBroken.{LowestBroken}
+use Rattle.lab_pass.specs.declared.Counted.{Counted}
 
 -- the result of a LAB with these cells, handed over one by one
 unfoldable pub resultOf : Table → (ℕ → Record) → List ℕ → LabResult
@@ -24,6 +28,22 @@ resultOf t cell is =
 -- the marks of cells, where they are wanted
 unfoldable pub markedIf : Bool → List ℕ → List Record → List ℕ
 markedIf b marks cs = cond b (markCells marks cs) marks
+
+-- the counts and the number of nets say of a list of cells, on any board, what the cells handed over one by one say
+pub record Tells (cell : ℕ → Record) (is : List ℕ) (k : Counts) (nets : ℕ) : Type 0 where
+  pub told : (t : Table) → resultFrom t k nets ≡ resultOf t cell is
+
+-- two counters, all counters, and the nets in too, hold the same
+unfoldable pub sameCodes : UpToTwo → UpToTwo → Bool
+sameCodes a b = eqb (a .count) (b .count) && eqb (a .low) (b .low) && eqb (a .high) (b .high)
+
+unfoldable pub sameCounts : Counts → Counts → Bool
+sameCounts a b =
+    sameCodes (a .clocks) (b .clocks) && sameCodes (a .pairs) (b .pairs) && sameCodes (a .clears) (b .clears)
+    && sameCodes (a .«sync_clears») (b .«sync_clears») && sameCodes (a .«sync_loads») (b .«sync_loads») && sameCodes (a .enables) (b .enables)
+
+unfoldable pub sameCounted : Counted → Counted → Bool
+sameCounted a b = sameCounts (a .counts) (b .counts) && eqb (a .nets) (b .nets)
 
 -- the result of LAB l
 unfoldable pub resultAt : Table → (ℕ → Record) → List ℕ → List ℕ → ℕ → LabResult

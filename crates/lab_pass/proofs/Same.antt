@@ -1,0 +1,56 @@
+-- Counters that hold the same are equal, so a LAB with the counts and the nets in of another has its result, and one with nothing counted keeps every
+-- rule and has no route. Assumes nothing.
+use Prim.Native.Nat.{ℕ}
+use mathlib.Core.Path.{_≡_, refl, sym, _∙_}
+use mathlib.Core.Bool.{Bool, true}
+use mathlib.Core.List.{List}
+use lib.ListN.{replicate}
+use borrow.Author.Tests.{eqb-true}
+use Rattle.sheet.proofs.Laws.{and-parts}
+use Rattle.exercise.specs.declared.Record.{Record}
+use Rattle.distinct.specs.declared.UpToTwo.{UpToTwo}
+use Rattle.route.specs.Table.{Table}
+use Rattle.lab_rules.specs.passes.Counts.{noCounts, resultFrom}
+use Rattle.lab_rules.specs.declared.Counts.{Counts}
+use Rattle.lab_rules.specs.declared.LabResult.{LabResult}
+use Rattle.lab_pass.specs.declared.Counted.{Counted}
+use Rattle.lab_pass.specs.passes.Results.{resultOf, sameCodes, sameCounts, sameCounted, Tells}
+use Rattle.lab_pass.proofs.Taking.{nothing-broken}
+
+codes-equal : (n l h m k g : ℕ) → n ≡ m → l ≡ k → h ≡ g → _≡_ {A = UpToTwo} (record { count = n; low = l; high = h }) (record { count = m; low = k; high = g })
+codes-equal n l h m k g p q r = rw (p, q, r)
+
+same-codes : (a b : UpToTwo) → sameCodes a b ≡ true → a ≡ b
+unfolding sameCodes
+same-codes a b h =
+    let p = and-parts _ _ h in
+    let q = and-parts _ _ (p .0) in
+    codes-equal _ _ _ _ _ _ (eqb-true (a .count) (b .count) (q .0)) (eqb-true (a .low) (b .low) (q .1)) (eqb-true (a .high) (b .high) (p .1))
+
+counts-equal : (c p r s l e c′ p′ r′ s′ l′ e′ : UpToTwo) → c ≡ c′ → p ≡ p′ → r ≡ r′ → s ≡ s′ → l ≡ l′ → e ≡ e′
+    → _≡_ {A = Counts} (record { clocks = c; pairs = p; clears = r; «sync_clears» = s; «sync_loads» = l; enables = e })
+    (record { clocks = c′; pairs = p′; clears = r′; «sync_clears» = s′; «sync_loads» = l′; enables = e′ })
+counts-equal c p r s l e c′ p′ r′ s′ l′ e′ hc hp hr hs hl he = rw (hc, hp, hr, hs, hl, he)
+
+same-counts : (a b : Counts) → sameCounts a b ≡ true → a ≡ b
+unfolding sameCounts
+same-counts a b h =
+    let e = and-parts _ _ h in
+    let l = and-parts _ _ (e .0) in
+    let s = and-parts _ _ (l .0) in
+    let r = and-parts _ _ (s .0) in
+    let p = and-parts _ _ (r .0) in
+    counts-equal _ _ _ _ _ _ _ _ _ _ _ _ (same-codes _ _ (p .0)) (same-codes _ _ (p .1)) (same-codes _ _ (r .1)) (same-codes _ _ (s .1))
+    (same-codes _ _ (l .1)) (same-codes _ _ (e .1))
+
+module _ (t : Table) (a b : Counted) (s : Bool) (q : s ≡ sameCounted a b) (h : s ≡ true) where
+  pub same-result : {r : LabResult} → r ≡ resultFrom t (b .counts) (b .nets) → r ≡ resultFrom t (a .counts) (a .nets)
+  unfolding sameCounted
+  same-result z =
+      let p = and-parts _ _ (sym q ∙ h) in
+      z ∙ rw (same-counts (a .counts) (b .counts) (p .0), eqb-true (a .nets) (b .nets) (p .1))
+
+  -- nothing is counted in b
+  pub idle-result : b .counts ≡ noCounts → b .nets ≡ 0 → (get : ℕ → Record) (is : List ℕ) → Tells get is (a .counts) (a .nets)
+      → _≡_ {A = LabResult} (record { number = 0; bytes = replicate 8 255 }) (resultOf t get is)
+  idle-result n z get is w = same-result (sym (rw (n, z) (nothing-broken t 0 refl))) ∙ w .told t

@@ -1,0 +1,18 @@
+-- The six counters are those of the definition.
+use Rattle.lab_pass.specs.passes.Results.{sameCounts}
+use borrow.Author.Needs.{needs}
+use Rattle.lab_pass.proofs.same_counts.Statement.{statement}
+use Rattle.lab_pass.proofs.same_counts.Tie as tie
+
+pub same-counts-spec : {M : Type 1} → statement M
+unfolding sameCounts
+same-counts-spec =
+    tie.close
+    (tie.spec
+    (λ c κs. search needs)  -- same-codes-requires
+    (λ c κs. search needs)  -- same-codes-requires-2
+    (λ c κs. search needs)  -- same-codes-requires-3
+    (λ c κs. search needs)  -- same-codes-requires-4
+    (λ c κs. search needs)  -- same-codes-requires-5
+    (λ c κs. search needs)  -- same-codes-requires-6
+    (λ c. cc))  -- returns
