@@ -13,4 +13,4 @@ has-key-spec =
     (λ c κs. search needs)  -- x-of-requires
     (λ c κs. search needs)  -- y-of-requires
     (λ c κs. search needs)  -- le-of-requires
-    (λ c. cc))  -- returns
+    (λ c. rw (c .le-of .ensures, c .before .y-of .ensures, c .before .before .x-of .ensures, c .before .before .before .kind-of .ensures)))  -- returns
