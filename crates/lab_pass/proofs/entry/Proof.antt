@@ -1,4 +1,4 @@
--- `labs::entry` meets its contract: within the table the value past its end does not matter, and past its end it is the answer. Assumes nothing.
+-- `lab_pass::entry` meets its contract: within the table the value past its end does not matter, and past its end it is the answer. Assumes nothing.
 use mathlib.Core.Path.{sym}
 use lib.ListN.{List·getD-eq-default}
 use borrow.Author.Needs.{needs}

@@ -1,4 +1,4 @@
--- `labs::is_short` meets its contract. The loop's invariant: the cells that were passed and those that are left are the whole list. Where it answers
+-- `lab_pass::is_short` meets its contract. The loop's invariant: the cells that were passed and those that are left are the whole list. Where it answers
 -- true no cell is left, and five were passed at the most; where it answers false six were. Assumes nothing.
 use borrow.Author.Needs.{needs}
 use Prim.Native.Nat.{_-_, _<_}

@@ -1,4 +1,4 @@
--- `labs::link_cells` meets its contract. The loop's invariant: linking the cells below `i` to the tables as they are gives the tables of all cells.
+-- `lab_pass::link_cells` meets its contract. The loop's invariant: linking the cells below `i` to the tables as they are gives the tables of all cells.
 -- The measure is `i`. Assumes nothing.
 use Prim.Native.Nat.{_-_}
 use native.Mathlib.Omega.{arith}

@@ -1,4 +1,4 @@
--- `labs::mark_if` meets its contract: the test picks the arm of the definition. Assumes nothing.
+-- `lab_pass::mark_if` meets its contract: the test picks the arm of the definition. Assumes nothing.
 use borrow.Author.Needs.{needs}
 use Rattle.lab_pass.proofs.mark_if.Statement.{statement}
 use Rattle.lab_pass.proofs.mark_if.Tie as tie

@@ -1,4 +1,4 @@
--- `labs::put_row` meets its contract: the eight stores are those of the definition. Assumes nothing.
+-- `lab_pass::put_row` meets its contract: the eight stores are those of the definition. Assumes nothing.
 use mathlib.Core.Path.{refl}
 use Rattle.lab_pass.specs.passes.Results.{putRow}
 use borrow.Author.Needs.{needs}

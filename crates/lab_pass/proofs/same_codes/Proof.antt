@@ -1,8 +1,9 @@
 -- The three comparisons are those of the definition.
+use mathlib.Core.Path.{refl}
 use Rattle.lab_pass.specs.passes.Results.{sameCodes}
 use Rattle.lab_pass.proofs.same_codes.Statement.{statement}
 use Rattle.lab_pass.proofs.same_codes.Tie as tie
 
 pub same-codes-spec : {M : Type 1} → statement M
 unfolding sameCodes
-same-codes-spec = tie.close (tie.spec (λ c. cc))
+same-codes-spec = tie.close (tie.spec (λ c. refl))

@@ -15,4 +15,13 @@ same-counts-spec =
     (λ c κs. search needs)  -- same-codes-requires-4
     (λ c κs. search needs)  -- same-codes-requires-5
     (λ c κs. search needs)  -- same-codes-requires-6
-    (λ c. cc))  -- returns
+    (λ c.
+    let l = c .before .before .before in
+    rw (
+      c .same-codes6 .ensures,
+      c .before .same-codes5 .ensures,
+      c .before .before .same-codes4 .ensures,
+      l .same-codes3 .ensures,
+      l .before .same-codes2 .ensures,
+      l .before .before .same-codes .ensures,
+    )))  -- returns

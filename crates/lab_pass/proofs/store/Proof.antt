@@ -1,4 +1,4 @@
--- `labs::store` meets its contract: past the end of the table a store changes nothing. Assumes nothing.
+-- `lab_pass::store` meets its contract: past the end of the table a store changes nothing. Assumes nothing.
 use mathlib.Core.Path.{sym}
 use lib.Seq.{set-out}
 use borrow.Author.Needs.{needs}
