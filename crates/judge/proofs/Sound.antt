@@ -23,7 +23,8 @@ use Rattle.netlist.specs.passes.Numbers.{numberAt}
 use Rattle.tables.proofs.Same.{reads-same, readers-same, drivers-same}
 use Rattle.tables.proofs.Filled.{reads, readers, drivers}
 use Rattle.netlist.proofs.Carry.{fed-by, number-is}
-use Rattle.placing.specs.Places.{follows, detachedBy, detachedAt}
+use Rattle.placing.specs.Places.{follows}
+use Rattle.placing.specs.passes.Detached.{detachedBy, detachedAt}
 use Rattle.judge.specs.declared.Finding.{Finding}
 use Rattle.judge.specs.Judge.{finding, legal, ofSheet, standsApart, carryNotNext, exerciseGroup, cellGroup, placeGroup, firstBroken}
 use Rattle.judge.specs.Numbers.{numbersTo51}

@@ -22,7 +22,8 @@ use Rattle.sheet.specs.Checks.{NONE}
 use Rattle.tables.specs.passes.Tables.{malformedAt, doubleFrom, readsBelow, readersBelow, driversBelow}
 use Rattle.netlist.specs.passes.Numbers.{numberBy, numberAt, brokenAt}
 use Rattle.tables.proofs.Double.{double-is}
-use Rattle.placing.specs.Places.{labAt, outOfRangeAt, placeTaken, detachedAt}
+use Rattle.placing.specs.Places.{labAt, outOfRangeAt, placeTaken}
+use Rattle.placing.specs.passes.Detached.{detachedAt}
 use Rattle.lab_pass.specs.Members.{members}
 use Rattle.lab_pass.specs.passes.Results.{resultAt, brokenLab, lowestBroken, hasCells, putRows}
 use Rattle.lab_pass.specs.declared.LowestBroken.{LowestBroken}

@@ -5,7 +5,8 @@ use mathlib.Core.List.{List}
 use lib.Dec.{eqb, ltb}
 use Rattle.sheet.specs.Lists.{firstFrom}
 use Rattle.exercise.specs.declared.Record.{Record}
-use Rattle.placing.specs.Places.{placeTaken, detachedAt}
+use Rattle.placing.specs.Places.{placeTaken}
+use Rattle.placing.specs.passes.Detached.{detachedAt}
 use Rattle.sheet.specs.Checks.{NONE}
 use Rattle.judge.specs.declared.Finding.{Finding}
 use Rattle.judge.specs.Judge.{finding, legal}

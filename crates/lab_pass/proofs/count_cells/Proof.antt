@@ -1,6 +1,5 @@
 -- The loop's invariant: the counts and the marks, with the cells that are left of the list, are those of the whole list. To a cell that is no register
 -- no port counts. Both `return`s stand where no cell is left.
-use mathlib.Core.Logic.{⊎-elim}
 use Rattle.exercise.specs.passes.Known.{knownAt}
 use borrow.Author.Needs.{needs}
 use Prim.Native.Nat.{_-_, _<_}
@@ -31,7 +30,7 @@ loop-again c =
     let i = r .before in
     let l = i .before .before in (
       take-goes _ _ 512 _ _ _ _ _ _ (l .loop .k) (l .loop .inv .0) _ _ _ _ (omega (arith, i .before .loop-test .taken)) (i .if1 .left)
-          (r .known-record-at .ensures) (no-register _ _ (λ t. ⊎-elim (λ w. omega arith) (λ w. omega arith) (c .match .keys2))) (m .mark-if .ensures)
+          (r .known-record-at .ensures) (no-register _ _ (c .match .keys2)) (m .mark-if .ensures)
           (e .entry .ensures),
       omega arith,
     )

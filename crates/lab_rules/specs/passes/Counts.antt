@@ -1,17 +1,17 @@
 -- What is kept of a LAB's cells while they are handed over one by one, and what follows from it. Assumes nothing.
 use Prim.Native.Nat.{ℕ, _<_}
 use mathlib.Core.Path.{_≡_}
-use mathlib.Core.Bool.{Bool, true, false, cond, _&&_, _||_}
-use mathlib.Core.List.{List, [], _∷_, _++_, map}
-use lib.ListN.{length, replicate}
+use mathlib.Core.Bool.{true, cond, _&&_, _||_}
+use mathlib.Core.List.{List, [], _∷_, _++_}
+use lib.ListN.{replicate}
 use lib.Dec.{eqb, ltb}
 use Rattle.sheet.specs.Lists.{filterb, Every, elemb}
-use Rattle.sheet.specs.Checks.{Check, check, firstNumber}
+use Rattle.sheet.specs.Checks.{check, firstNumber}
 use Rattle.sheet.specs.Signal.{connected, isNet}
 use Rattle.exercise.specs.Record.{outputs}
 use Rattle.exercise.specs.declared.RegisterCell.{RegisterCell}
 use Rattle.exercise.specs.declared.Record.{Record}
-use Rattle.exercise.specs.declared.Record.the-variants.{Combinational, Register, Malformed}
+use Rattle.exercise.specs.declared.Record.the-variants.{Register}
 use Rattle.distinct.specs.Rising.{rising}
 use Rattle.distinct.specs.passes.UpToTwo.{noCode, withCodes, upToTwo, codesOf}
 use Rattle.distinct.specs.declared.UpToTwo.{UpToTwo}
@@ -24,7 +24,7 @@ use Rattle.route.specs.Route.{labRouteOf}
 use Rattle.lab_nets.specs.NetsIn.{inputs}
 use Rattle.lab_rules.specs.declared.Counts.{Counts}
 use Rattle.lab_rules.specs.declared.LabResult.{LabResult}
-use Rattle.lab_rules.specs.Ports.{clk, ena, aclr, sclr, sload, clock, clockPair, clear, inUse, needed, ofRegister, inLab}
+use Rattle.lab_rules.specs.Ports.{clk, ena, sclr, sload, clock, clockPair, clear, inUse, needed, ofRegister, inLab}
 use Rattle.lab_rules.specs.Rules.{MAX_NETS_IN, needsOfRole}
 
 abbrev pub noCounts : Counts
