@@ -1,7 +1,7 @@
 -- The marks of a cell are those of its inputs, then of its outputs, one signal after the other. Assumes nothing.
 use Prim.Native.Nat.{ℕ}
-use mathlib.Core.Path.{_≡_, refl, _∙_}
-use mathlib.Core.Bool.{Bool, true, false, cond}
+use mathlib.Core.Path.{_≡_, refl}
+use mathlib.Core.Bool.{Bool, true, false}
 use mathlib.Core.List.{List, [], _∷_, _++_, map}
 use Rattle.sheet.specs.Signal.{isNet, netOf}
 use Rattle.exercise.specs.Record.{outputs}

@@ -1,6 +1,7 @@
 pub mod Steps
 pub mod Folded
 pub mod Needed
+pub mod Checks
 pub mod Result
 pub mod Fewer
 pub mod Settled

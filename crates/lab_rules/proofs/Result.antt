@@ -7,6 +7,7 @@ use mathlib.Core.Option.{Option, none, some}
 use native.Mathlib.Omega.{arith}
 use lib.ListN.{length, replicate}
 use lib.Dec.{eqb}
+use borrow.Author.Tests.{eqb-true}
 use Rattle.sheet.specs.Checks.{firstNumber}
 use Rattle.exercise.specs.declared.Record.{Record}
 use Rattle.sheet.proofs.Laws.{by-test}
@@ -18,9 +19,10 @@ use Rattle.route.specs.Way.{earliestWay}
 use Rattle.route.specs.Route.{labRouteOf}
 use Rattle.lab_nets.specs.NetsIn.{netsIn}
 use Rattle.lab_rules.specs.Ports.{sclr, sload, clock, clockPair, clear, inUse, inLab}
-use Rattle.lab_rules.specs.Rules.{tooManyClocks, tooManyPairs, tooManyClears, tooManySynchronous, tooManyNets, needs, isNone, noWay, labRules, labNumber, routeOf, labResult}
+use Rattle.lab_rules.specs.Rules.{tooManyClocks, tooManyPairs, tooManyClears, tooManySynchronous, tooManyNets, needs, isNone, noWay, labRules, routeOf, labResult}
 use Rattle.lab_rules.specs.passes.Counts.{countsOf, brokenBy, routedResult, resultFrom, AllFit}
 use Rattle.lab_rules.proofs.Needed.{needs-held}
+use Rattle.lab_rules.proofs.Checks.{rules-held, number-is}
 
 broken-is : (cs : List Record) → brokenBy (countsOf cs) (length (netsIn cs)) ≡ firstNumber (labRules cs)
 unfolding brokenBy countsOf tooManyClocks tooManyPairs tooManyClears tooManySynchronous tooManyNets
@@ -42,12 +44,10 @@ routed-is ns (some w) = refl
 
 -- 60 to 65
 pub result-is : (t : Table) (cs : List Record) → AllFit cs → resultFrom t (countsOf cs) (length (netsIn cs)) ≡ labResult t cs
-unfolding resultFrom labResult labNumber routeOf noWay
+unfolding resultFrom labResult routeOf noWay
 result-is t cs fit =
-    rw (broken-is cs)
-    (by-test (tooManyClocks cs) (λ a. rw a)
-    (λ a. by-test (tooManyPairs cs) (λ b. rw (a, b))
-    (λ b. by-test (tooManyClears cs) (λ c. rw (a, b, c))
-    (λ c. by-test (tooManySynchronous cs) (λ d. rw (a, b, c, d))
-    (λ d. by-test (tooManyNets cs) (λ e. rw (a, b, c, d, e))
-    (λ e. rw (a, b, c, d, e, needs-held cs fit a b c d) (routed-is (needs cs) (earliestWay t (needs cs)))))))))
+    rw (broken-is cs, number-is t cs)
+    (by-test (eqb (firstNumber (labRules cs)) 0)
+    (λ z. let h = rules-held cs (eqb-true (firstNumber (labRules cs)) 0 z) in
+    rw (z, needs-held cs fit (h .0) (h .1) (h .2) (h .3)) (routed-is (needs cs) (earliestWay t (needs cs))))
+    (λ z. rw (z, z)))

@@ -1,6 +1,6 @@
 -- What the number of a LAB's cells says of all its ways: 65 where 60 to 64 hold and there is none, 0 where they hold and there is one; then the
 -- route bytes hold the earliest. Assumes nothing.
-use Prim.Native.Nat.{ℕ, _<_}
+use Prim.Native.Nat.{ℕ}
 use mathlib.Core.Path.{_≡_, refl, sym, ap, _∙_}
 use mathlib.Core.Logic.{_↔_}
 use mathlib.Core.Bool.{Bool, true, false, cond, true≢false}
@@ -17,9 +17,10 @@ use Rattle.route.specs.Way.{Way, earliestWay}
 use Rattle.route.specs.Route.{eightBytes, labRouteOf, HoldsEarliest}
 use Rattle.route.proofs.AllWays.{earliest-none, earliest-some, earliest-found}
 use Rattle.route.proofs.EightBytes.{slot-held, slot-free}
-use Rattle.lab_rules.specs.Rules.{tooManyClocks, tooManyPairs, tooManyClears, tooManySynchronous, tooManyNets, needs, isNone, noWay, labRules, labNumber, routeOf}
+use Rattle.lab_rules.specs.Rules.{needs, isNone, noWay, labRules, labNumber, routeOf}
 use Rattle.lab_rules.specs.passes.Counts.{AllFit}
 use Rattle.lab_rules.proofs.Needed.{needs-room}
+use Rattle.lab_rules.proofs.Checks.{rules-held, rules-low, number-is}
 
 is-none : (o : Option (List ℕ)) → isNone o ≡ true → o ≡ none
 is-none none q = refl
@@ -49,73 +50,34 @@ module _ (t : Table) (cs : List Record) where
   )
 
   -- ---- the number
-  number-is : labNumber t cs ≡ cond (eqb (firstNumber (labRules cs)) 0) (cond (noWay t cs) 65 0) (firstNumber (labRules cs))
-  unfolding labNumber
-  number-is =
-      by-test (tooManyClocks cs) (λ a. rw a)
-      (λ a. by-test (tooManyPairs cs) (λ b. rw (a, b))
-      (λ b. by-test (tooManyClears cs) (λ c. rw (a, b, c))
-      (λ c. by-test (tooManySynchronous cs) (λ d. rw (a, b, c, d))
-      (λ d. by-test (tooManyNets cs) (λ e. rw (a, b, c, d, e)) (λ e. rw (a, b, c, d, e))))))
-
-  rules-low : firstNumber (labRules cs) < 65
-  rules-low =
-      by-test (tooManyClocks cs) (λ a. rw a (omega arith))
-      (λ a. by-test (tooManyPairs cs) (λ b. rw (a, b) (omega arith))
-      (λ b. by-test (tooManyClears cs) (λ c. rw (a, b, c) (omega arith))
-      (λ c. by-test (tooManySynchronous cs) (λ d. rw (a, b, c, d) (omega arith))
-      (λ d. by-test (tooManyNets cs) (λ e. rw (a, b, c, d, e) (omega arith)) (λ e. rw (a, b, c, d, e) (omega arith))))))
-
   -- a number of 60 to 64 is neither 65 nor 0
   neither : (b : Bool) → (firstNumber (labRules cs) ≡ 0 → ⊥) → firstNumber (labRules cs) ≡ cond b 65 0 → ⊥
-  neither true h q = omega (arith, rules-low)
+  neither true h q = omega (arith, rules-low cs)
   neither false h q = h q
 
   pub told : (b : Bool) → (labNumber t cs ≡ cond b 65 0) ↔ ((firstNumber (labRules cs) ≡ 0) × (noWay t cs ≡ b))
-  told b = (there, λ h. number-is ∙ rw (h .0, h .1))
+  told b = (there, λ h. number-is t cs ∙ rw (h .0, h .1))
     where
       there : labNumber t cs ≡ cond b 65 0 → (firstNumber (labRules cs) ≡ 0) × (noWay t cs ≡ b)
       there q =
           by-test (eqb (firstNumber (labRules cs)) 0)
-          (λ z. let n : labNumber t cs ≡ cond (noWay t cs) 65 0 = number-is ∙ rw z in
+          (λ z. let n : labNumber t cs ≡ cond (noWay t cs) 65 0 = number-is t cs ∙ rw z in
           (eqb-true (firstNumber (labRules cs)) 0 z, same-test (noWay t cs) b (sym n ∙ q)))
-          (λ z. let n : labNumber t cs ≡ firstNumber (labRules cs) = number-is ∙ rw z in
+          (λ z. let n : labNumber t cs ≡ firstNumber (labRules cs) = number-is t cs ∙ rw z in
           absurd (neither b (eqb-false (firstNumber (labRules cs)) 0 z) (sym n ∙ q)))
 
-  -- the list check's 18 is no number of a LAB's rules
-  pub not-18 : labNumber t cs ≡ 18 → ⊥
-  unfolding labNumber
-  not-18 q =
-      by-test (tooManyClocks cs) (λ a. omega (arith, rw a at q))
-      (λ a. by-test (tooManyPairs cs) (λ b. omega (arith, rw (a, b) at q))
-      (λ b. by-test (tooManyClears cs) (λ c. omega (arith, rw (a, b, c) at q))
-      (λ c. by-test (tooManySynchronous cs) (λ d. omega (arith, rw (a, b, c, d) at q))
-      (λ d. by-test (tooManyNets cs) (λ e. omega (arith, rw (a, b, c, d, e) at q))
-      (λ e. by-test (noWay t cs) (λ f. omega (arith, rw (a, b, c, d, e, f) at q)) (λ f. omega (arith, rw (a, b, c, d, e, f) at q)))))))
-
   -- ---- the route bytes
-  rules-held : firstNumber (labRules cs) ≡ 0
-      → (tooManyClocks cs ≡ false) × (tooManyPairs cs ≡ false) × (tooManyClears cs ≡ false) × (tooManySynchronous cs ≡ false)
-  rules-held h =
-      by-test (tooManyClocks cs) (λ a. absurd (omega (arith, rw a at h)))
-      (λ a. by-test (tooManyPairs cs) (λ b. absurd (omega (arith, rw (a, b) at h)))
-      (λ b. by-test (tooManyClears cs) (λ c. absurd (omega (arith, rw (a, b, c) at h)))
-      (λ c. by-test (tooManySynchronous cs) (λ d. absurd (omega (arith, rw (a, b, c, d) at h))) (λ d. (a, b, c, d)))))
-
   way-bytes : (w : List ℕ) → earliestWay t (needs cs) ≡ some w → routeOf t cs ≡ eightBytes (needs cs) w
   unfolding routeOf labRouteOf
   way-bytes w q = ap (λ (o : Option (List ℕ)). labRouteOf (needs cs) o .bytes) q
-
-  no-way-none : noWay t cs ≡ false → (w : List ℕ) × (earliestWay t (needs cs) ≡ some w)
-  unfolding noWay
-  no-way-none q = is-some (earliestWay t (needs cs)) q
 
   -- THE ROUTE BYTES OF A LAB THAT KEEPS 60 TO 65 HOLD ITS EARLIEST WAY
   pub lab-legal : AllFit cs → labNumber t cs ≡ 0 → HoldsEarliest t (needs cs) (routeOf t cs)
   lab-legal fit z =
       let g = told false .0 z in
-      let r = rules-held (g .0) in
-      let way = no-way-none (g .1) in
+      let r = rules-held cs (g .0) in
+      let some-way = goes .0 (g .1) in
+      let way = earliest-found t (needs cs) (some-way .0) (some-way .1) in
       let first = earliest-some t (needs cs) (way .0) (way .1) in
       let bytes = way-bytes (way .0) (way .1) in
       let fits = needs-room cs fit (r .0) (r .1) (r .2) (r .3) in

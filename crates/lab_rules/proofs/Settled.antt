@@ -13,7 +13,7 @@ use Rattle.route.proofs.AllWays.{found-earliest}
 use Rattle.lab_nets.specs.NetsIn.{inputs, netsIn}
 use Rattle.lab_rules.specs.Ports.{counted, clockPair, inUse, needed, inLab}
 use Rattle.lab_rules.specs.Rules.{tooManyClocks, tooManyPairs, tooManyClears, tooManySynchronous, tooManyNets, needs, isNone, noWay, labRules, labNumber}
-use Rattle.lab_rules.specs.Examples.{Claim, Holds, Settled, route}
+use Rattle.lab_rules.specs.Examples.{Holds, Settled, route}
 
 -- a claim about a route, from what the search finds
 searched : (cs : List Record) (k n : ℕ) (w : Option (List ℕ)) → length (needs cs) ≡ k

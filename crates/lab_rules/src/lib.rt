@@ -6,7 +6,7 @@ use route::Need;
 use route::Needs;
 use sheet::Signal;
 ghost use mathlib.Core.Path.{_≡_};
-ghost use mathlib.Core.Bool.{Bool, cond, _||_};
+ghost use mathlib.Core.Bool.{cond, _||_};
 ghost use mathlib.Core.List.{[], _∷_};
 ghost use lib.Dec.{eqb};
 ghost use Rattle.sheet.specs.Signal.{UNCONNECTED, GND, VCC, connected, isNet};

@@ -15,7 +15,8 @@ use Rattle.route.specs.Table.{Table}
 use Rattle.route.specs.Route.{HoldsEarliest}
 use Rattle.lab_rules.specs.declared.LabResult.{LabResult}
 use Rattle.lab_rules.specs.Rules.{labNumber, routeOf, labResult, noWay}
-use Rattle.lab_rules.proofs.Routes.{told, stuck, goes, lab-legal, not-18}
+use Rattle.lab_rules.proofs.Checks.{not-18}
+use Rattle.lab_rules.proofs.Routes.{told, stuck, goes, lab-legal}
 use Rattle.lab_rules.proofs.Order as order
 use Rattle.list_check.specs.declared.CellRecord.{CellRecord}
 use Rattle.list_check.specs.ListCheck.{recordFrom, unfit, noList, listVerdict}

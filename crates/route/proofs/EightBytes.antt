@@ -9,7 +9,6 @@ use native.Mathlib.Omega.{arith}
 use lib.ListN.{length, getD, take, List·getD-eq-default}
 use lib.Dec.{eqb}
 use borrow.Author.Tests.{eqb-true, eq-eqb}
-use Rattle.sheet.specs.Lists.{filterb}
 use Rattle.sheet.proofs.Laws.{by-test}
 use Rattle.route.specs.declared.Need.{Need}
 use Rattle.route.specs.Table.{needAt}

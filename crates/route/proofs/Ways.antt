@@ -2,17 +2,15 @@
 -- Fewer needs don't lose their way. Assumes nothing.
 use Prim.Native.Nat.{ℕ, zero, suc, _<_}
 use mathlib.Core.Path.{_≡_, refl, sym, ap, _∙_}
-use mathlib.Core.Logic.{_⊎_, _↔_}
 use mathlib.Core.Bool.{Bool, true, false, not, _&&_, true≢false}
 use mathlib.Core.List.{List, [], _∷_, Sublistᴰ, Sublistᴰ·slnil, Sublistᴰ·cons, Sublistᴰ·cons-cons}
-use mathlib.Core.Option.{none, some}
 use native.Mathlib.Nat.{not-suc-le-zero, le-of-suc-le-suc}
 use native.Mathlib.Omega.{arith}
 use lib.ListN.{length, getD, set, replicate, getD-replicate}
 use lib.Seq.{getD-set-same, getD-set-other}
 use Rattle.route.specs.declared.Need.{Need}
 use Rattle.route.specs.Table.{Table, serves, needAt}
-use Rattle.route.specs.Way.{Way, Earlier}
+use Rattle.route.specs.Way.{Way}
 use Rattle.route.specs.passes.Search.{mayHave, takenBy, foundWay}
 use Rattle.route.proofs.Search.{First, Given, first-same, search-first}
 

@@ -1,9 +1,7 @@
 use sheet::Signal;
 ghost use mathlib.Core.Path.{_≡_};
 ghost use mathlib.Core.Bool.{true, false};
-ghost use mathlib.Core.List.{[], _∷_};
 ghost use Prim.Native.Nat.{_+_, _≤_, _<_};
-ghost use lib.ListN.{length, take, set, replicate, getD};
 ghost use lib.Seq.{slice};
 ghost use Rattle.route.specs.Table.{ENTRIES, houseBoard, needList, noNeeds, withNeed};
 ghost use Rattle.route.specs.Way.{earliestWay};
