@@ -12,7 +12,7 @@ use Rattle.judge.specs.Call.{call}
 use Rattle.judge.specs.Judge.{judged, routed}
 use Rattle.listing.specs.Text.{overwrite, MOST}
 use Rattle.listing.specs.passes.Writes.{Writes}
-use Rattle.listing.specs.Listing.{verdictLine, labLines, listed, listing}
+use Rattle.listing.specs.Listing.{verdictLine, labLines, listingCall, listing}
 use Rattle.listing.specs.passes.Marks.{markedFrom, linesFrom}
 use Rattle.listing.proofs.Writing.{_then_, nothing, within}
 use Rattle.listing.proofs.Marked.{legal-lines}
@@ -21,8 +21,8 @@ use Rattle.listing.proofs.Marked.{legal-lines}
 abbrev pub Listed : List ℕ → List ℕ → List ℕ → List ℕ → ℕ → Type 0
 Listed e a before after n = (after ≡ overwrite before 0 (listing e a)) × ((n ≡ length (listing e a)) × (n ≤ MOST))
 
-is-listed : (e a before : List ℕ) {after : List ℕ} {n : ℕ} → Writes before 0 (listing e a) MOST after n → Listed e a before after n
-is-listed e a before w = (w .stored, (omega (arith, w .past), omega (arith, w .short)))
+listed : (e a before : List ℕ) {after : List ℕ} {n : ℕ} → Writes before 0 (listing e a) MOST after n → Listed e a before after n
+listed e a before w = (w .stored, (omega (arith, w .past), omega (arith, w .short)))
 
 -- the route buffer before the verdict
 abbrev fresh : List ℕ
@@ -31,19 +31,19 @@ fresh = replicate 8192 255
 -- the verdict v on the board t, from a route buffer that was full of 255s
 module _ (t : Table) (e a : List ℕ) (v : Verdict) (house : t ≡ houseBoard) (verdict : v ≡ judged (call t e a (length fresh)))
     {l m : List ℕ} {p : ℕ} (first : Writes l 0 (verdictLine v) 72 m p) where
-  is-judged : v ≡ judged (listed e a)
+  is-judged : v ≡ judged (listingCall e a)
   is-judged = verdict ∙ rw (house, length-replicate {A = ℕ} 8192 255)
 
   pub refused : (v .number ≡ 0 → ⊥) → Listed e a l m p
   unfolding listing
-  refused h = is-listed e a l (rw (← is-judged, ne-eqb (v .number) 0 h) (within MOST (omega arith) (first then nothing m p 0)))
+  refused h = listed e a l (rw (← is-judged, ne-eqb (v .number) 0 h) (within MOST (omega arith) (first then nothing m p 0)))
 
   pub legal : (route marks : List ℕ) (n : ℕ) {o : List ℕ} {q : ℕ} → v .number ≡ 0 → route ≡ routed (call t e a (length fresh)) fresh → n ≡ cellCount e
       → marks ≡ markedFrom a (replicate 1024 0) 0 n → Writes m p (linesFrom marks route 0 1024) 130048 o q → Listed e a l o q
   unfolding listing
   legal route marks n {o} {q} z r c k w =
-      let zero : judged (listed e a) .number ≡ 0 = ap (λ (u : Verdict). u .number) (sym is-judged) ∙ z in
-      let lines : linesFrom marks route 0 1024 ≡ labLines (listed e a) =
-      rw (r, k, house, c, length-replicate {A = ℕ} 8192 255) (legal-lines (listed e a) fresh zero) in
-      let more : Writes m p (labLines (listed e a)) 130048 o q = rw lines at w in
-      is-listed e a l (rw (← is-judged, eq-eqb (v .number) 0 z) (first then more))
+      let zero : judged (listingCall e a) .number ≡ 0 = ap (λ (u : Verdict). u .number) (sym is-judged) ∙ z in
+      let lines : linesFrom marks route 0 1024 ≡ labLines (listingCall e a) =
+      rw (r, k, house, c, length-replicate {A = ℕ} 8192 255) (legal-lines (listingCall e a) fresh zero) in
+      let more : Writes m p (labLines (listingCall e a)) 130048 o q = rw lines at w in
+      listed e a l (rw (← is-judged, eq-eqb (v .number) 0 z) (first then more))

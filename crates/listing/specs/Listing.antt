@@ -51,12 +51,12 @@ unfoldable pub labLines : Call → List ℕ
 labLines c = concatMap (λ l. labLine l (routeOf (c .table) (labCells c l))) (filterb (occupied c) (below 1024))
 
 -- the judge's call for a listing: on the board of document 01, with a route buffer of the right length
-abbrev pub listed : List ℕ → List ℕ → Call
-listed e a = call houseBoard e a 8192
+abbrev pub listingCall : List ℕ → List ℕ → Call
+listingCall e a = call houseBoard e a 8192
 
 -- THE LISTING: "One verdict line, then for a legal answer one line for each occupied LAB, rising"
 unfoldable pub listing : List ℕ → List ℕ → List ℕ
 listing e a =
-    let c = listed e a in
+    let c = listingCall e a in
     let v = judged c in
     verdictLine v ++ cond (eqb (v .number) 0) (labLines c) []
