@@ -14,19 +14,32 @@ use borrow.Author.Needs.{needs}
 use Rattle.c_api.proofs.nurimkkot_judge.Statement.{statement}
 use Rattle.c_api.proofs.nurimkkot_judge.Tie as tie
 
-seven : (t : Table) (e a before after : List ℕ) (v : Verdict) (number cell lab apprentice sheet start size : ℕ) → t ≡ houseBoard
-    → v ≡ judged (call t e a (length before)) → after ≡ routed (call t e a (length before)) before → number ≡ v .number → cell ≡ v .cell → lab ≡ v .lab → apprentice ≡ v .apprentice
-    → sheet ≡ cond (v .culprit .«of_answer») 1 0 → start ≡ v .culprit .start → size ≡ v .culprit .size
-    → let c = call houseBoard e a (length before) in
-    (after ≡ routed c before) × (number ∷ cell ∷ lab ∷ apprentice ∷ sheet ∷ start ∷ size ∷ [] ≡ sevenNumbers (judged c))
-seven t e a before after v number cell lab apprentice sheet start size h x y n c l p s b z = (y ∙ rw h, rw (n, c, l, p, s, b, z, x, h))
+-- the route buffer and the seven numbers, of the board t that is document 01's
+module _ (t : Table) (e a before : List ℕ) (house : t ≡ houseBoard) where
+  routes : (after : List ℕ) → after ≡ routed (call t e a (length before)) before → after ≡ routed (call houseBoard e a (length before)) before
+  routes after y = y ∙ rw house
+
+  seven : (v : Verdict) (number cell lab apprentice sheet start size : ℕ) → v ≡ judged (call t e a (length before))
+      → number ≡ v .number → cell ≡ v .cell → lab ≡ v .lab → apprentice ≡ v .apprentice
+      → sheet ≡ cond (v .culprit .«of_answer») 1 0 → start ≡ v .culprit .start → size ≡ v .culprit .size
+      → number ∷ cell ∷ lab ∷ apprentice ∷ sheet ∷ start ∷ size ∷ [] ≡ sevenNumbers (judged (call houseBoard e a (length before)))
+  seven v number cell lab apprentice sheet start size x n c l p s b z = rw (n, c, l, p, s, b, z, x, house)
 
 returns : tie.Need-returns
 returns c =
-    let s = c .before .before .before .before .before .before .before .before .before .before .before .before .before .before .before .before .before .args in
-    let v = c .before .before .before .before .before .before .before .before .before .before .before .judge-on in
-    seven _ (now (s .exercise)) (now (s .answer)) (now (s .route)) (v .last .1 .1 .1 .0) (v .result) _ _ _ _ _ _ _ (c .before .before .before .before .before .before .before .before .before .before .before .before .before .house-board .ensures) (v .ensures .0) (v .ensures .1)
-    (c .before .before .before .before .before .before .before .wide8 .ensures) (c .before .before .before .before .before .before .wide16 .ensures) (c .before .before .before .before .before .wide162 .ensures) (c .before .before .before .before .wide32 .ensures) (c .before .before .before .sheet-number .ensures) (c .before .before .wide .ensures) (c .before .wide2 .ensures)
+    let sheet = c .before .before .before in
+    let number = sheet .before .before .before .before in
+    let v = number .before .before .before .before .judge-on in
+    let board = number .before .before .before .before .before .before in
+    let s = board .before .before .before .before .args in
+    let e = now (s .exercise) in
+    let a = now (s .answer) in
+    let before = now (s .route) in (
+      routes _ e a before (board .house-board .ensures) (v .last .1 .1 .1 .0) (v .ensures .1),
+      seven _ e a before (board .house-board .ensures) (v .result) _ _ _ _ _ _ _ (v .ensures .0)
+          (number .wide8 .ensures) (c .before .before .before .before .before .before .wide16 .ensures) (c .before .before .before .before .before .wide162 .ensures)
+          (c .before .before .before .before .wide32 .ensures) (sheet .sheet-number .ensures) (c .before .before .wide .ensures) (c .before .wide2 .ensures),
+    )
 
 pub nurimkkot-judge-spec : {M : Type 1} → statement M
 nurimkkot-judge-spec =
