@@ -1,7 +1,7 @@
 -- The records of a list, taken one by one, give the verdict of the list: 18, or what the rules of a LAB say of its cells.
 -- Assumes nothing.
 use Prim.Native.Nat.{ℕ}
-use mathlib.Core.Path.{_≡_, refl, sym, _∙_}
+use mathlib.Core.Path.{_≡_, refl, sym, ap, _∙_}
 use mathlib.Core.Bool.{Bool, true, false, not, _&&_, _||_}
 use mathlib.Core.List.{List, [], _∷_, map}
 use native.Mathlib.Omega.{arith}
@@ -101,7 +101,7 @@ empty-list t = refl
 
 no-list-long : (cs : List CellRecord) → ltb 32 (length cs) ≡ true → noList cs ≡ true
 unfolding noList
-no-list-long cs h = rw h
+no-list-long cs h = ap (λ (b : Bool). b || anyb unfit (map recordFrom cs)) h
 
 -- 18
 pub too-long : (t : Table) (cs : List CellRecord) → ltb 32 (length cs) ≡ true → refused 18 ≡ listVerdict t cs
