@@ -1,10 +1,10 @@
 -- Two cells that have keys stand at one place exactly where their keys are equal, and each marks its key. So the scan over keys finds what the scan
 -- over places finds, and where the pass over the marks meets none that is set it finds nothing. Assumes nothing.
-use Prim.Native.Nat.{ℕ, zero, suc, _+_, _-_, _<_, _≤_}
+use Prim.Native.Nat.{ℕ, zero, suc, _+_, _*_, _-_, _<_, _≤_}
 use native.Mathlib.Omega.{arith}
 use native.Mathlib.Numerals.{add-one}
 use mathlib.Core.Path.{_≡_, refl, sym, ap, _∙_}
-use mathlib.Core.Bool.{Bool, true, false, cond, not, _||_, true≢false}
+use mathlib.Core.Bool.{Bool, true, false, cond, not, _||_, _&&_, true≢false}
 use mathlib.Core.List.{List}
 use lib.ListN.{length, getD, set, replicate, length-set, length-replicate}
 use lib.Seq.{getD-set-same, getD-set-other}
@@ -15,7 +15,7 @@ use Rattle.sheet.proofs.Laws.{by-test, and-parts}
 use Rattle.sheet.proofs.First.{first-below, before-first, first-most, none-first}
 use Rattle.sheet.proofs.Scan.{Scanned, scan-starts, scan-goes-at, scan-stops-at, scan-ends, any-below}
 use Rattle.placing.specs.Places.{kindAt, xAt, yAt, leAt, labAt, samePlace, placeTaken}
-use Rattle.placing.specs.passes.Keys.{key, hasKey, putKeys, keyTaken, mayClash, Keyed}
+use Rattle.placing.specs.passes.Keys.{key, hasKey, keyOf, putKeys, keyTaken, mayClash, Keyed}
 
 -- ---- keys
 one-or-two : (k : ℕ) → eqb k 1 || eqb k 2 ≡ true → (1 ≤ k) × (k ≤ 2)
@@ -23,21 +23,48 @@ one-or-two k h =
     by-test (eqb k 1) (λ e. let q = eqb-true k 1 e in (omega arith, omega arith))
     (λ e. let q = eqb-true k 2 (rw e at h) in (omega arith, omega arith))
 
+-- what the tests of a cell's number, kind, x, y and LE tell
+pub tests-tell : (i k x y l : ℕ) → ltb i 512 && (eqb k 1 || eqb k 2) && ltb x 32 && ltb y 32 && ltb l 16 ≡ true → (i < 512) × (1 ≤ k) × (k ≤ 2) × (x < 32) × (y < 32) × (l < 16)
+tests-tell i k x y l h =
+    let le = and-parts _ _ h in
+    let row = and-parts _ _ (le .0) in
+    let column = and-parts _ _ (row .0) in
+    let kind = and-parts _ _ (column .0) in
+    let n = one-or-two k (kind .1) in
+    (ltb-true _ _ (kind .0), n .0, n .1, ltb-true _ _ (column .1), ltb-true _ _ (row .1), ltb-true _ _ (le .1))
+
 module _ (e a : List ℕ) where
   -- what is known of a cell that has a key
   pub keyed-cell : (i : ℕ) → hasKey e a i ≡ true → (i < 512) × (1 ≤ kindAt e i) × (kindAt e i ≤ 2) × (xAt a i < 32) × (yAt a i < 32) × (leAt a i < 16)
   unfolding hasKey
-  keyed-cell i h =
-      let l = and-parts _ _ h in
-      let y = and-parts _ _ (l .0) in
-      let x = and-parts _ _ (y .0) in
-      let k = and-parts _ _ (x .0) in
-      let n = one-or-two (kindAt e i) (k .1) in
-      (ltb-true _ _ (k .0), n .0, n .1, ltb-true _ _ (x .1), ltb-true _ _ (y .1), ltb-true _ _ (l .1))
+  keyed-cell i h = tests-tell i (kindAt e i) (xAt a i) (yAt a i) (leAt a i) h
 
   pub key-within : (i : ℕ) → hasKey e a i ≡ true → key e a i < 32768
   unfolding key labAt
   key-within i h = let p = keyed-cell i h in omega arith
+
+  -- what a key tells of its cell
+  pub given-key : (i k : ℕ) → k ≡ keyOf e a i → (k ≡ 65535 → ⊥) → (hasKey e a i ≡ true) × (k ≡ key e a i)
+  unfolding keyOf
+  given-key i k h n = by-test (hasKey e a i) (λ t. (t, rw t at h)) (λ t. absurd (n (rw t at h)))
+
+  no-key : (i k : ℕ) → k ≡ keyOf e a i → k ≡ 65535 → hasKey e a i ≡ false
+  unfolding keyOf
+  no-key i k h n = by-test (hasKey e a i) (λ t. let z : k ≡ key e a i = rw t at h in absurd (omega (arith, key-within i t))) (λ t. t)
+
+  -- what was read of a cell is tested, and makes its key
+  module _ (i k x y l : ℕ) (p : k ≡ kindAt e i) (q : x ≡ xAt a i) (r : y ≡ yAt a i) (s : l ≡ leAt a i) where
+    tests : ltb i 512 && (eqb k 1 || eqb k 2) && ltb x 32 && ltb y 32 && ltb l 16 ≡ hasKey e a i
+    unfolding hasKey
+    tests = rw (p, q, r, s)
+
+    pub read-key : ltb i 512 && (eqb k 1 || eqb k 2) && ltb x 32 && ltb y 32 && ltb l 16 ≡ true → 16384 * (k - 1) + 16 * (32 * y + x) + l ≡ keyOf e a i
+    unfolding keyOf key labAt
+    read-key h = rw (sym tests ∙ h, p, q, r, s)
+
+    pub read-none : ltb i 512 && (eqb k 1 || eqb k 2) && ltb x 32 && ltb y 32 && ltb l 16 ≡ false → 65535 ≡ keyOf e a i
+    unfolding keyOf
+    read-none h = rw (sym tests ∙ h)
 
   place-key : (j i : ℕ) → samePlace e a j i ≡ true → key e a j ≡ key e a i
   unfolding key labAt samePlace
@@ -91,13 +118,15 @@ module _ (e a : List ℕ) (n : ℕ) (keys₀ keys : List ℕ) (i : ℕ) (s : Fil
   pub fill-ends : n ≤ i → (i ≡ firstFrom (λ j. not (hasKey e a j)) 0 n) × (keys ≡ putKeys e a keys₀ i)
   fill-ends h = (scan-ends _ n i (s .scanned) h, s .put)
 
-  module _ (h : i < n) (b : Bool) (q : b ≡ hasKey e a i) where
-    pub fill-stops : not b ≡ true → (i ≡ firstFrom (λ j. not (hasKey e a j)) 0 n) × (keys ≡ putKeys e a keys₀ i)
-    fill-stops t = (scan-stops-at _ n i (s .scanned) h (rw (← q) t), s .put)
+  module _ (h : i < n) (k : ℕ) (q : k ≡ keyOf e a i) where
+    pub fill-stops : k ≡ 65535 → (i ≡ firstFrom (λ j. not (hasKey e a j)) 0 n) × (keys ≡ putKeys e a keys₀ i)
+    fill-stops z = (scan-stops-at _ n i (s .scanned) h (rw (no-key e a i k q z)), s .put)
 
-    pub fill-goes : not b ≡ false → (k : ℕ) → k ≡ key e a i → Filled e a n keys₀ (set keys i k) (i + 1)
+    pub fill-goes : (k ≡ 65535 → ⊥) → Filled e a n keys₀ (set keys i k) (i + 1)
     unfolding putKeys
-    fill-goes t k w = record { scanned = scan-goes-at _ n i (s .scanned) h (rw (← q) t); put = rw (s .put, w, add-one) }
+    fill-goes z =
+        let g = given-key e a i k q z in
+        record { scanned = scan-goes-at _ n i (s .scanned) h (rw (g .0)); put = rw (s .put, g .1, add-one) }
 
 -- ---- the pass over the marks
 passed : (q r : Bool) → cond (not q) true r ≡ false → (q ≡ true) × (r ≡ false)

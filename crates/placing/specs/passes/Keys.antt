@@ -17,6 +17,10 @@ unfoldable pub hasKey : List ℕ → List ℕ → ℕ → Bool
 hasKey e a i =
     ltb i 512 && (eqb (kindAt e i) 1 || eqb (kindAt e i) 2) && ltb (xAt a i) 32 && ltb (yAt a i) 32 && ltb (leAt a i) 16
 
+-- the key of a cell, or 65,535 where it has none
+unfoldable pub keyOf : List ℕ → List ℕ → ℕ → ℕ
+keyOf e a i = cond (hasKey e a i) (key e a i) 65535
+
 -- the keys of the cells below k, put into a table
 unfoldable pub putKeys : List ℕ → List ℕ → List ℕ → ℕ → List ℕ
 putKeys e a keys zero = keys
