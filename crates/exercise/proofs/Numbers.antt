@@ -7,7 +7,6 @@ use mathlib.Core.List.{List, []}
 use lib.ListN.{length}
 use lib.Dec.{eqb, ltb}
 use borrow.Author.Tests.{eqb-true, eqb-false, ne-eqb, ltb-false, not-true}
-use Rattle.sheet.specs.Bytes.{byteAt}
 use Rattle.sheet.specs.Signal.{connected}
 use Rattle.exercise.specs.Record.{kindOf, flagOf, codeAt, combinationalOf, registerOf, badCombinational, badRegister, badTail}
 use Rattle.exercise.specs.Record.{keepsCombinational, keepsRegister, breaksLayout, recordFields, recordOf, recordNumber, recordValues}

@@ -14,7 +14,7 @@ ghost use Rattle.exercise.specs.passes.Known.{knownAt};
 ghost use Rattle.distinct.specs.passes.Marks.{markAll};
 ghost use Rattle.lab_rules.specs.passes.Counts.{noCounts, countsAll, resultFrom};
 ghost use Rattle.lab_nets.specs.passes.Uses.{usesOf};
-ghost use Rattle.lab_pass.specs.passes.Links.{Links, link, linkBelow, walk};
+ghost use Rattle.lab_pass.specs.passes.Links.{link, linkBelow, walk};
 ghost use Rattle.lab_pass.specs.passes.Results.{markedIf, sameCodes, sameCounts, sameCounted, Tells, resultAt, hasCells, lowestBroken, putRow, putRows};
 
 // The number of LABs.

@@ -3,7 +3,7 @@ use mathlib.Core.Path.{_≡_, refl, _∙_}
 use Prim.Native.Nat.{_-_}
 use native.Mathlib.Omega.{arith}
 use lib.ListN.{replicate}
-use Rattle.lab_rules.specs.passes.Counts.{noCounts, resultFrom}
+use Rattle.lab_rules.specs.passes.Counts.{resultFrom}
 use Rattle.lab_pass.proofs.Passing.{Passed, pass-starts, pass-skips, pass-goes, pass-stops, pass-ends}
 use Rattle.lab_pass.proofs.Same.{idle-result}
 use Rattle.exercise.specs.passes.Known.{knownAt}
