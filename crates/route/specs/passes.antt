@@ -1,3 +1,3 @@
--- It works: what the passes over the sheets compute, for the proofs alone. A reader who believes the rest can pass over these.
+-- What the passes over the sheets compute, for the proofs alone: a reader who believes the rest can pass over these.
 pub mod Partial
 pub mod Search
