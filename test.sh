@@ -13,7 +13,8 @@ rt fmt --check || { echo "test.sh: run 'rt fmt'"; exit 1; }
 outputs=$(mktemp -d) || exit 2
 trap 'rm -rf "$outputs"' EXIT
 log=$outputs/log
-rt ci 2>&1 | tee "$log"
+# More at a time than there are cores: rt waits for all of a batch, and a short check leaves its core to a long one.
+RT_JOBS=${RT_JOBS:-4} rt ci 2>&1 | tee "$log"
 [ "${PIPESTATUS[0]}" -eq 0 ] || exit 1
 verdict=$(tail -n 1 "$log")
 case $verdict in
