@@ -11,16 +11,13 @@
 /* All cells of an exercise that opens, and how many there are; -1 where a record breaks the layout. */
 static int read_cells(const uint8_t *exercise, size_t length, struct nurimkkot_cell *cells)
 {
-    uint16_t at = 0, fields[NURIMKKOT_CELL_FIELDS];
-    int count = 0, i;
+    /* Not into the list itself: at the end zeros are written, and the list may be full. */
+    struct nurimkkot_cell cell;
+    uint16_t at = 0;
+    int count = 0;
     uint8_t said;
-    while ((said = nurimkkot_next_cell(exercise, length, &at, fields)) == NURIMKKOT_GIVEN) {
-        cells[count].kind = (uint8_t)fields[0];
-        cells[count].flag = (uint8_t)fields[1];
-        for (i = 0; i < 11; i++)
-            cells[count].signals[i] = fields[2 + i];
-        count++;
-    }
+    while ((said = nurimkkot_next_record(exercise, length, &at, &cell)) == NURIMKKOT_GIVEN)
+        cells[count++] = cell;
     return said == NURIMKKOT_END ? count : -1;
 }
 

@@ -1,17 +1,17 @@
-/* Nurimkkot: the judge of FPGA placement exercises, the check of one LAB and the readers of both sheets, for C.
+/* Nurimkkot: the judge of FPGA placement exercises, the check of one LAB, the readers and the writers of both sheets, for C.
  *
  * Link with libc_api.a, which `rt staticlib c_api` writes to target/staticlib. The archive is for x86-64 Linux, position independent,
  * and calls nothing but memory functions of the C library (memcpy, memset and the like). docs/SHEETS.md has the layout of both sheets.
  *
  * Every function asks this of its pointers:
  *   - a pointer is valid for the length or count that goes with it, or for the array that is declared here;
- *   - no pointer is NULL, but one whose length or count is 0: an empty sheet, route buffer or list may be NULL. That is tested
+ *   - no pointer is NULL, but one whose length, count or room is 0: an empty sheet, buffer or list may be NULL. That is tested
  *     (tests/c/null.c), not proved;
  *   - a pointer is aligned for its type. The records in a sheet need not be: copy them, and do not cast `exercise + 9` to
  *     struct nurimkkot_cell *;
- *   - what the call writes (route, numbers, *at, cell, place) overlaps nothing else that is passed to the same call. What it only
- *     reads may overlap.
- * Nothing is asked of the contents: a sheet, a list and *at may hold anything, and a length or count may be any, also 0.
+ *   - what the call writes (route, numbers, *at, cell, place, sheet, *length) overlaps nothing else that is passed to the same call.
+ *     What it only reads may overlap.
+ * Nothing is asked of the contents: a sheet, a list and *at may hold anything, and a length, count or room may be any, also 0.
  *
  * Every call returns. It allocates nothing and keeps nothing, so threads may call at the same time, where none writes what another
  * uses.
@@ -60,7 +60,7 @@ void nurimkkot_judge(const uint8_t *exercise, size_t exercise_length,
                      uint8_t *route, size_t route_length,
                      uint64_t numbers[NURIMKKOT_NUMBERS]);
 
-/* A cell's record: kind (1 combinational, 2 register), flag and eleven signals, as nurimkkot_next_cell gives them. On a little-endian
+/* A cell's record: kind (1 combinational, 2 register), flag and eleven signals, as nurimkkot_next_record gives them. On a little-endian
  * machine, such as x86-64, it has the very 24 bytes of the record in the exercise sheet. */
 struct nurimkkot_cell {
     uint8_t kind;
@@ -82,7 +82,7 @@ struct nurimkkot_cell {
  *   - nurimkkot_judge names only the lowest broken LAB: every lower LAB has number 0 here, and of a higher one it says nothing. */
 uint8_t nurimkkot_check_lab(const struct nurimkkot_cell *cells, size_t count, uint8_t route[8]);
 
-/* What nurimkkot_next_cell and nurimkkot_next_place say. */
+/* What nurimkkot_next_cell, nurimkkot_next_place and nurimkkot_next_record say. */
 enum {
     NURIMKKOT_GIVEN,  /* a record is given, and the number of the next one is in *at */
     NURIMKKOT_BROKEN, /* the record breaks its layout; *at stays */
@@ -104,6 +104,41 @@ uint8_t nurimkkot_open_answer(const uint8_t *answer, size_t length);
 #define NURIMKKOT_PLACE_FIELDS 3
 uint8_t nurimkkot_next_cell(const uint8_t *exercise, size_t length, uint16_t *at, uint16_t cell[NURIMKKOT_CELL_FIELDS]);
 uint8_t nurimkkot_next_place(const uint8_t *answer, size_t length, uint16_t *at, uint16_t place[NURIMKKOT_PLACE_FIELDS]);
+
+/* The same as nurimkkot_next_cell, with the record in the struct that nurimkkot_check_lab and nurimkkot_write_exercise take. Where no
+ * record is given, at the end too, the struct's 24 bytes are zeros: a loop over an array needs one element more than there are cells. */
+uint8_t nurimkkot_next_record(const uint8_t *exercise, size_t length, uint16_t *at, struct nurimkkot_cell *cell);
+
+/* How many bytes a sheet of so many cells has. */
+#define NURIMKKOT_EXERCISE_LENGTH(cells) (9 + 24 * (size_t)(cells))
+#define NURIMKKOT_ANSWER_LENGTH(cells) (11 + 4 * (size_t)(cells))
+
+/* Writes an exercise sheet of so many nets and these cells into a buffer of `room` bytes. What nurimkkot_next_record read can be
+ * written as it is.
+ *
+ * Returns 0 and writes the sheet, its length in *length; the bytes of the buffer past the sheet stay. Or returns the first of these
+ * that applies; then not one byte of the buffer is touched, and *length is 0:
+ *    2  the buffer is shorter than the sheet, NURIMKKOT_EXERCISE_LENGTH(count);
+ *   13  count is above 512, or nets above 1,024;
+ *   15  a record breaks the layout;
+ *   16  an output's net is already driven.
+ * A sheet that was written passes 10 to 16 of the judge and reads back as these nets and cells. A sheet that passes 10 to 16 is
+ * written again to the same bytes. */
+uint8_t nurimkkot_write_exercise(uint16_t nets, const struct nurimkkot_cell *cells, size_t count,
+                                 uint8_t *sheet, size_t room, size_t *length);
+
+/* Writes an answer sheet in the same way: an apprentice's places, three numbers each, x, y and LE, as nurimkkot_next_place gives
+ * them. `count` is the number of places, so there are 3 * count numbers.
+ *
+ *    2  the buffer is shorter than the sheet, NURIMKKOT_ANSWER_LENGTH(count);
+ *   13  count is above 512;
+ *   23  the apprentice is 0;
+ *   26  x or y is above 31, or LE above 15, in some place.
+ * 24 is not judged: no exercise is asked for. A sheet that was written passes 20 to 26 of the judge beside an exercise of as many
+ * cells, and reads back as this apprentice and these places. An answer that passes 20 to 26 beside its exercise is written again to
+ * the same bytes. */
+uint8_t nurimkkot_write_answer(uint32_t apprentice, const uint16_t *places, size_t count,
+                               uint8_t *sheet, size_t room, size_t *length);
 
 #ifdef __cplusplus
 }

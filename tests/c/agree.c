@@ -13,14 +13,12 @@ static uint16_t lab_of[CELLS];
 /* All cells of the exercise and their LABs, from the readers; gives how many there are. */
 static int read_sheets(const uint8_t *exercise, size_t exercise_length, const uint8_t *answer, size_t answer_length)
 {
-    uint16_t at = 0, place_at = 0, cell[NURIMKKOT_CELL_FIELDS], place[NURIMKKOT_PLACE_FIELDS];
-    int count = 0, i;
-    while (nurimkkot_next_cell(exercise, exercise_length, &at, cell) == NURIMKKOT_GIVEN) {
+    uint16_t at = 0, place_at = 0, place[NURIMKKOT_PLACE_FIELDS];
+    struct nurimkkot_cell cell;
+    int count = 0;
+    while (nurimkkot_next_record(exercise, exercise_length, &at, &cell) == NURIMKKOT_GIVEN) {
         expect(nurimkkot_next_place(answer, answer_length, &place_at, place) == NURIMKKOT_GIVEN, "a place for each cell", count);
-        cells[count].kind = (uint8_t)cell[0];
-        cells[count].flag = (uint8_t)cell[1];
-        for (i = 0; i < 11; i++)
-            cells[count].signals[i] = cell[2 + i];
+        cells[count] = cell;
         lab_of[count++] = (uint16_t)(32 * place[1] + place[0]);
     }
     return count;

@@ -1,7 +1,7 @@
 /* Calls the readers and the check of one LAB as the tablet would: sheets cut short at every length, lists that keep and that break each
  * rule of the list check, each in several orders, guard bytes around what is written, and a block of its own for each sheet and list so
  * that valgrind sees a read past the end. */
-#include "sheets.h"
+#include "records.h"
 
 static const uint8_t NO_ROUTE[8] = {255, 255, 255, 255, 255, 255, 255, 255};
 
@@ -16,11 +16,12 @@ static uint8_t opening(int of_answer, const uint8_t *sheet, size_t length)
     return number;
 }
 
-/* One call of a reader with guards around the fields and around the number; gives what it says. */
+/* One call of a reader with guards around the fields and around the number; gives what it says. A cell is read as a struct too. */
 static uint8_t next(int of_answer, const uint8_t *sheet, size_t length, uint16_t *at, uint16_t *fields)
 {
     uint16_t guarded[NURIMKKOT_CELL_FIELDS + 2], number[3] = {0x5a5a, *at, 0x5a5a}, stood = *at;
     size_t n = of_answer ? NURIMKKOT_PLACE_FIELDS : NURIMKKOT_CELL_FIELDS, i;
+    struct nurimkkot_cell record;
     uint8_t *own = copy_of(sheet, length);
     uint8_t said;
     memset(guarded, 0x5a, sizeof guarded);
@@ -33,6 +34,8 @@ static uint8_t next(int of_answer, const uint8_t *sheet, size_t length, uint16_t
         expect(guarded[1 + i] == 0, "fields of no record", (long)i);
     memcpy(fields, guarded + 1, 2 * n);
     give_back(own, sheet, length);
+    if (!of_answer)
+        expect(record_as_cell(sheet, length, stood, &record) == said, "a cell as a struct", stood);
     return said;
 }
 
@@ -151,13 +154,7 @@ static struct nurimkkot_cell with(struct nurimkkot_cell c, int port, uint16_t si
 static struct nurimkkot_cell cell_of(const uint8_t *exercise, size_t length, uint16_t i)
 {
     struct nurimkkot_cell c;
-    uint16_t fields[NURIMKKOT_CELL_FIELDS];
-    size_t j;
-    expect(next(0, exercise, length, &i, fields) == NURIMKKOT_GIVEN, "a cell for a list", i);
-    c.kind = (uint8_t)fields[0];
-    c.flag = (uint8_t)fields[1];
-    for (j = 0; j < 11; j++)
-        c.signals[j] = fields[2 + j];
+    expect(record_as_cell(exercise, length, i, &c) == NURIMKKOT_GIVEN, "a cell for a list", i);
     return c;
 }
 

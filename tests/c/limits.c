@@ -1,5 +1,5 @@
-/* Opens sheets and reads records and places at both sides of every limit of document 01. */
-#include "sheets.h"
+/* Opens sheets, and reads and writes records and places, at both sides of every limit of document 01. */
+#include "records.h"
 
 static void put_word(uint8_t *at, unsigned n)
 {
@@ -108,11 +108,15 @@ static void answer_heads(void)
     }
 }
 
-/* One record in an exercise with these nets: signal j has a code, and all others are 0. A record that is given comes back as it is. */
+/* One record in an exercise with these nets: signal j has a code, and all others are 0. A record that is given comes back as it is, and is
+ * written again; one that is not is refused with 15. */
 static void reads_record(const char *what, unsigned nets, unsigned kind, unsigned flag, unsigned j, unsigned code, int given)
 {
     uint16_t at = 0;
     uint16_t cell[NURIMKKOT_CELL_FIELDS];
+    struct nurimkkot_cell record = { (uint8_t)kind, (uint8_t)flag, { 0 } };
+    uint8_t again[33];
+    size_t length;
     begin_exercise(1, nets, 1);
     exercise[9] = (uint8_t)kind;
     exercise[10] = (uint8_t)flag;
@@ -124,6 +128,10 @@ static void reads_record(const char *what, unsigned nets, unsigned kind, unsigne
         unsigned value = field == 0 ? kind : field == 1 ? flag : field == j + 2 ? code : 0;
         expect(cell[field] == (given ? value : 0), what, field);
     }
+    record.signals[j] = (uint16_t)code;
+    expect(nurimkkot_write_exercise((uint16_t)nets, &record, 1, again, sizeof again, &length) == (given ? 0 : 15), what, code);
+    expect(length == (given ? sizeof again : 0) && (!given || memcmp(again, exercise, sizeof again) == 0), what, code);
+    expect(record_as_cell(exercise, 33, 0, &record) == (given ? NURIMKKOT_GIVEN : NURIMKKOT_BROKEN), what, code);
 }
 
 /* 15 */
@@ -188,12 +196,22 @@ static void places(void)
     for (size_t i = 0; i < sizeof cases / sizeof cases[0]; i++) {
         uint16_t at = 0;
         uint16_t place[NURIMKKOT_PLACE_FIELDS] = { 7, 7, 7 };
+        uint8_t again[15];
+        size_t length;
         begin_answer(1, 7, 0, 1);
         memcpy(answer + 11, cases[i].place, 4);
         expect(nurimkkot_next_place(answer, 15, &at, place) == (cases[i].given ? NURIMKKOT_GIVEN : NURIMKKOT_BROKEN), cases[i].what, (long)i);
         expect(at == (cases[i].given ? 1 : 0), cases[i].what, at);
         for (unsigned field = 0; field < NURIMKKOT_PLACE_FIELDS; field++)
             expect(place[field] == (cases[i].given ? cases[i].place[field] : 0), cases[i].what, field);
+        /* The last byte of a place is not among the three numbers that the writer is given. */
+        if (cases[i].place[3] != 0)
+            continue;
+        for (unsigned field = 0; field < NURIMKKOT_PLACE_FIELDS; field++)
+            place[field] = cases[i].place[field];
+        expect(nurimkkot_write_answer(7, place, 1, again, sizeof again, &length) == (cases[i].given ? 0 : 26), cases[i].what, (long)i);
+        expect(length == (cases[i].given ? sizeof again : 0), cases[i].what, (long)length);
+        expect(!cases[i].given || memcmp(again, answer, sizeof again) == 0, cases[i].what, (long)i);
     }
 }
 

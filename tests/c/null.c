@@ -62,6 +62,7 @@ static void forms(void)
 {
     static const uint16_t numbers[] = {0, 1, 511, 512, 65535};
     uint16_t fields[NURIMKKOT_CELL_FIELDS], at;
+    struct nurimkkot_cell cell;
     uint8_t route[8], said;
     size_t i, j;
     inside = 1;
@@ -75,6 +76,14 @@ static void forms(void)
         expect(said == NURIMKKOT_END && at == numbers[i], "the next cell of no exercise", at);
         for (j = 0; j < NURIMKKOT_CELL_FIELDS; j++)
             expect(fields[j] == 0, "fields of no cell", (long)j);
+        cell.kind = cell.flag = 0x5a;
+        for (j = 0; j < 11; j++)
+            cell.signals[j] = 0x5a5a;
+        said = nurimkkot_next_record(NULL, 0, &at, &cell);
+        expect(said == NURIMKKOT_END && at == numbers[i], "the next record of no exercise", at);
+        expect(cell.kind == 0 && cell.flag == 0, "kind and flag of no record", at);
+        for (j = 0; j < 11; j++)
+            expect(cell.signals[j] == 0, "signals of no record", (long)j);
         for (j = 0; j < NURIMKKOT_PLACE_FIELDS; j++)
             fields[j] = 0x5a5a;
         said = nurimkkot_next_place(NULL, 0, &at, fields);
@@ -89,6 +98,52 @@ static void forms(void)
     expect(said == 0, "the number of no list", said);
     for (j = 0; j < 8; j++)
         expect(route[j] == NURIMKKOT_NO_ENTRY, "the route bytes of no list", (long)j);
+}
+
+/* One of the writers, with no records or no sheet or neither, beside the same call with an address for each. `head` is the net count or the
+ * apprentice, and two records are at hand. */
+static void writer(const char *what, int of_answer, uint32_t head, int with_records, int with_sheet, size_t room, uint8_t number)
+{
+    static const struct nurimkkot_cell cells[2] = {{1, 0, {0}}, {2, 0, {0}}};
+    static const uint16_t places[6] = {1, 2, 3, 4, 5, 6};
+    uint8_t sheet[64], same[64];
+    size_t lengths[2], count = with_records ? 2 : 0, i;
+    size_t needed = of_answer ? NURIMKKOT_ANSWER_LENGTH(count) : NURIMKKOT_EXERCISE_LENGTH(count);
+    uint8_t said, others;
+    memset(sheet, 0xa5, sizeof sheet);
+    memset(same, 0xa5, sizeof same);
+    memset(lengths, 0x5a, sizeof lengths);
+    inside = 1;
+    said = of_answer ? nurimkkot_write_answer(head, with_records ? places : NULL, count, with_sheet ? sheet : NULL, room, lengths)
+                     : nurimkkot_write_exercise((uint16_t)head, with_records ? cells : NULL, count, with_sheet ? sheet : NULL, room, lengths);
+    inside = 0;
+    others = of_answer ? nurimkkot_write_answer(head, places, count, same, room, lengths + 1)
+                       : nurimkkot_write_exercise((uint16_t)head, cells, count, same, room, lengths + 1);
+    expect(said == number && others == number, what, said);
+    expect(lengths[0] == (number == 0 ? needed : 0), what, (long)lengths[0]);
+    expect(lengths[0] == lengths[1], "the same length as with an address", (long)lengths[1]);
+    expect(memcmp(sheet, same, sizeof sheet) == 0, "the same sheet as with an address", (long)room);
+    for (i = lengths[0]; i < sizeof sheet; i++)
+        expect(sheet[i] == 0xa5, "a byte that is not the sheet's", (long)i);
+}
+
+/* The writers. */
+static void writers(void)
+{
+    int of_answer;
+    for (of_answer = 0; of_answer < 2; of_answer++) {
+        size_t head = of_answer ? 11 : 9;
+        writer("no records", of_answer, 7, 0, 1, head, 0);
+        writer("no records, a longer buffer", of_answer, 7, 0, 1, 64, 0);
+        writer("no records, a byte short", of_answer, 7, 0, 1, head - 1, 2);
+        writer("no records, no buffer", of_answer, 7, 0, 0, 0, 2);
+        writer("no buffer", of_answer, 7, 1, 0, 0, 2);
+    }
+    writer("no records, 1024 nets", 0, 1024, 0, 1, 9, 0);
+    writer("no records, 1025 nets", 0, 1025, 0, 1, 9, 13);
+    writer("no records, 1025 nets, no buffer", 0, 1025, 0, 0, 0, 2);
+    writer("no records, apprentice 0", 1, 0, 0, 1, 11, 23);
+    writer("no records, apprentice 0, no buffer", 1, 0, 0, 0, 0, 2);
 }
 
 int main(int argc, char **argv)
@@ -113,8 +168,9 @@ int main(int argc, char **argv)
     }
     expect(pairs > 0 && empty_answers > 0 && empty_answers < pairs, "sheets of both sorts", pairs);
     forms();
+    writers();
     expect(calls > 0, "memcpy and memset were watched", calls);
     if (failures == 0)
-        printf("C: NULL with length 0 is an empty sheet, route or list, beside %d pairs of sheets\n", pairs);
+        printf("C: NULL with length 0 is an empty sheet, route, list or buffer, beside %d pairs of sheets\n", pairs);
     return failures != 0;
 }

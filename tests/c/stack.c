@@ -16,10 +16,19 @@
 #define CELLS 512
 #define LIST 32
 
+/* The header's figures: each function uses less. */
+#define JUDGE_LIMIT (48 * KIB)
+#define CHECK_LIMIT (8 * KIB)
+#define READER_LIMIT (1 * KIB)
+#define WRITE_EXERCISE_LIMIT (16 * KIB)
+#define WRITE_ANSWER_LIMIT (1 * KIB)
+
 static uint8_t exercise[9 + 24 * CELLS], answer[11 + 4 * CELLS], route[NURIMKKOT_ROUTE_SIZE], bytes[8], said;
 static uint64_t numbers[NURIMKKOT_NUMBERS];
-static struct nurimkkot_cell list[LIST];
-static uint16_t at, fields[NURIMKKOT_CELL_FIELDS];
+static struct nurimkkot_cell cells[CELLS], list[LIST], read_back;
+static uint16_t places[3 * CELLS], at, fields[NURIMKKOT_CELL_FIELDS];
+static uint8_t sheet[sizeof exercise];
+static size_t length;
 
 static void judge(void)
 {
@@ -49,6 +58,21 @@ static void next_cell(void)
 static void next_place(void)
 {
     said = nurimkkot_next_place(answer, sizeof answer, &at, fields);
+}
+
+static void next_record(void)
+{
+    said = nurimkkot_next_record(exercise, sizeof exercise, &at, &read_back);
+}
+
+static void write_exercise(void)
+{
+    said = nurimkkot_write_exercise(1024, cells, CELLS, sheet, sizeof exercise, &length);
+}
+
+static void write_answer(void)
+{
+    said = nurimkkot_write_answer(7, places, CELLS, sheet, sizeof answer, &length);
 }
 
 /* A stack, the call to make on it, and how many bytes it used: MARGIN where it used no more than that. */
@@ -112,8 +136,8 @@ static struct nurimkkot_cell cell_with(int i, uint16_t ena)
     return cell;
 }
 
-/* Fills both sheets and the list. It does without memcpy and memset, so that the first call to be measured is the first to use them: a
- * program that binds them late does so there, on the same stack. */
+/* Fills both sheets, the list, and the cells and places to write. It does without memcpy and memset, so that the first call to be measured is
+ * the first to use them: a program that binds them late does so there, on the same stack. */
 static void fill(uint16_t ena)
 {
     static const uint8_t exercise_head[9] = {'L', 'X', 'E', 1, 0, 0, 4, 0, 2}, answer_head[11] = {'L', 'X', 'A', 1, 0, 7, 0, 0, 0, 0, 2};
@@ -125,6 +149,7 @@ static void fill(uint16_t ena)
     for (i = 0; i < CELLS; i++) {
         struct nurimkkot_cell cell = cell_with(i, ena);
         uint8_t *record = exercise + 9 + 24 * i, *place = answer + 11 + 4 * i;
+        cells[i] = cell;
         if (i < LIST)
             list[i] = cell;
         record[0] = cell.kind;
@@ -137,36 +162,64 @@ static void fill(uint16_t ena)
         place[1] = 31;
         place[2] = (uint8_t)(i % 16);
         place[3] = 0;
+        for (j = 0; j < 3; j++)
+            places[3 * i + j] = place[j];
     }
+}
+
+/* The readers of both sheets. The first cell is a register, the last one combinational. Gives the most that one of them used. */
+static size_t readers(void)
+{
+    size_t reads = less_than(READER_LIMIT, "stack of nurimkkot_open_exercise", open_exercise, 0);
+    int last;
+    reads = less_than(READER_LIMIT, "stack of nurimkkot_open_answer", open_answer, reads);
+    for (last = 0; last < 2; last++) {
+        at = last ? CELLS - 1 : 0;
+        reads = less_than(READER_LIMIT, "stack of nurimkkot_next_cell", next_cell, reads);
+        expect(said == NURIMKKOT_GIVEN, "a cell of the exercise", at);
+        at = last ? CELLS - 1 : 0;
+        reads = less_than(READER_LIMIT, "stack of nurimkkot_next_record", next_record, reads);
+        expect(said == NURIMKKOT_GIVEN && read_back.kind == (last ? 1 : 2), "a record of the exercise", at);
+        at = last ? CELLS - 1 : 0;
+        reads = less_than(READER_LIMIT, "stack of nurimkkot_next_place", next_place, reads);
+        expect(said == NURIMKKOT_GIVEN, "a place of the answer", at);
+    }
+    return reads;
+}
+
+/* The two writers, on as many records as there may be; then on a last one that is broken. */
+static void writers(size_t *exercises, size_t *answers)
+{
+    *exercises = less_than(WRITE_EXERCISE_LIMIT, "stack of nurimkkot_write_exercise", write_exercise, 0);
+    expect(said == 0 && length == sizeof exercise, "an exercise written", said);
+    *answers = less_than(WRITE_ANSWER_LIMIT, "stack of nurimkkot_write_answer", write_answer, 0);
+    expect(said == 0 && length == sizeof answer, "an answer written", said);
+    cells[CELLS - 1].signals[5] = 3;
+    *exercises = less_than(WRITE_EXERCISE_LIMIT, "stack of nurimkkot_write_exercise", write_exercise, *exercises);
+    expect(said == 15, "an exercise refused", said);
+    places[3 * CELLS - 1] = 16;
+    *answers = less_than(WRITE_ANSWER_LIMIT, "stack of nurimkkot_write_answer", write_answer, *answers);
+    expect(said == 26, "an answer refused", said);
 }
 
 int main(void)
 {
-    size_t judges = 0, checks = 0, reads = 0;
+    size_t judges = 0, checks = 0, reads, exercises, answers;
     int needs;
     /* Six needs, which all get an entry; then seven, of which the last gets none. */
     for (needs = 6; needs <= 7; needs++) {
         uint8_t expected = needs == 6 ? 0 : 65;
         fill(needs == 6 ? 0 : 16);
-        checks = less_than(8 * KIB, "stack of nurimkkot_check_lab", check_lab, checks);
+        checks = less_than(CHECK_LIMIT, "stack of nurimkkot_check_lab", check_lab, checks);
         expect(said == expected, "number of the list", said);
-        judges = less_than(48 * KIB, "stack of nurimkkot_judge", judge, judges);
+        judges = less_than(JUDGE_LIMIT, "stack of nurimkkot_judge", judge, judges);
         expect(numbers[NURIMKKOT_NUMBER] == expected, "verdict of the sheets", (long)numbers[NURIMKKOT_NUMBER]);
     }
     expect(checks > MARGIN && judges > MARGIN, "the measuring itself", (long)judges);
-    reads = less_than(KIB, "stack of nurimkkot_open_exercise", open_exercise, reads);
-    reads = less_than(KIB, "stack of nurimkkot_open_answer", open_answer, reads);
-    /* The first cell is a register, the last one combinational. */
-    at = 0;
-    reads = less_than(KIB, "stack of nurimkkot_next_cell", next_cell, reads);
-    expect(said == NURIMKKOT_GIVEN, "the first cell", at);
-    at = CELLS - 1;
-    reads = less_than(KIB, "stack of nurimkkot_next_cell", next_cell, reads);
-    expect(said == NURIMKKOT_GIVEN, "the last cell", at);
-    at = 0;
-    reads = less_than(KIB, "stack of nurimkkot_next_place", next_place, reads);
-    expect(said == NURIMKKOT_GIVEN, "a place of the answer", at);
-    printf("C: stack: nurimkkot_judge %lu bytes, nurimkkot_check_lab %lu, a reader at most %lu\n", (unsigned long)judges,
-           (unsigned long)checks, (unsigned long)reads);
+    reads = readers();
+    writers(&exercises, &answers);
+    printf("C: stack: nurimkkot_judge %lu bytes, nurimkkot_check_lab %lu, a reader at most %lu, nurimkkot_write_exercise %lu, "
+           "nurimkkot_write_answer %lu\n", (unsigned long)judges, (unsigned long)checks, (unsigned long)reads, (unsigned long)exercises,
+           (unsigned long)answers);
     return failures != 0;
 }

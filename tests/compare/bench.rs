@@ -1,11 +1,12 @@
 //! Time per judgement of the proved judge and of the Rust judge on the same
 //! sheets, how it grows with the number of cells, and what the least work takes in
-//! the same run; then the list check and the readers beside plain ones.
+//! the same run; then the list check, the readers and the writers beside plain ones.
 
 mod generate;
 mod judge;
 mod plain;
 mod proved;
+mod writer;
 
 use generate::*;
 use plain::{CellRecord, Step};
@@ -176,11 +177,11 @@ fn median(mut v: Vec<f64>) -> f64 {
     v[v.len() / 2]
 }
 
-/// The list check and the readers beside the plain ones, on LABs and sheets of the
-/// legal kind.
+/// The list check, the readers and the writers beside the plain ones, on LABs and
+/// sheets of the legal kind.
 fn forms(rng: &mut Rng) {
     println!();
-    println!("list check and readers, median of {RUNS} runs over {VARIANTS} inputs");
+    println!("list check, readers and writers, median of {RUNS} runs over {VARIANTS} inputs");
     println!(
         "{:<31}{:>6}{:>13}{:>13}{:>8}",
         "call", "cells", "proved us", "plain us", "ratio"
@@ -227,7 +228,59 @@ fn forms(rng: &mut Rng) {
             |(e, _)| read(proved::next_cell, e),
             |(e, _)| read(plain::next_cell, e),
         );
+        if size == 8 || size == 512 {
+            writers(size, &inputs);
+        }
     }
+}
+
+/// Both writers on what stands in the sheets; at least they copy as many bytes.
+fn writers(size: usize, sheets: &[(Vec<u8>, Vec<u8>)]) {
+    // For the proved and for the Rust writer.
+    let mut left = vec![0u8; 12_297];
+    let mut right = left.clone();
+    let mut inputs = Vec::new();
+    for (e, a) in sheets {
+        let nets = plain::word(e, 5);
+        let cells: Vec<CellRecord> = e[9..].chunks_exact(24).map(plain::record).collect();
+        let place = |r: &[u8]| [r[0], r[1], r[2]].map(u16::from);
+        let places: Vec<[u16; 3]> = a[11..].chunks_exact(4).map(place).collect();
+        let apprentice = plain::word(a, 5) as u32;
+        assert_eq!(proved::write_exercise(nets, &cells, &mut left).0, 0);
+        assert_eq!(writer::exercise(nets, &cells, &mut right).0, 0);
+        assert!(left[..e.len()] == e[..] && right[..e.len()] == e[..]);
+        assert_eq!(proved::write_answer(apprentice, &places, &mut left).0, 0);
+        assert_eq!(writer::answer(apprentice, &places, &mut right).0, 0);
+        assert!(left[..a.len()] == a[..] && right[..a.len()] == a[..]);
+        inputs.push((nets, cells, apprentice, places));
+    }
+    let exercise = compare(
+        "exercise writer",
+        size,
+        &inputs,
+        |(nets, cells, ..)| {
+            black_box(proved::write_exercise(*nets, cells, &mut left));
+        },
+        |(nets, cells, ..)| {
+            black_box(writer::exercise(*nets, cells, &mut right));
+        },
+    );
+    let answer = compare(
+        "answer writer",
+        size,
+        &inputs,
+        |(.., apprentice, places)| {
+            black_box(proved::write_answer(*apprentice, places, &mut left));
+        },
+        |(.., apprentice, places)| {
+            black_box(writer::answer(*apprentice, places, &mut right));
+        },
+    );
+    let copy = |b: &mut [u8], from: &[u8]| black_box(&mut b[..from.len()]).copy_from_slice(from);
+    let copied = time(sheets, |(e, _)| copy(&mut left, e));
+    row("exercise writer beside a copy", size, exercise, copied);
+    let copied = time(sheets, |(_, a)| copy(&mut left, a));
+    row("answer writer beside a copy", size, answer, copied);
 }
 
 /// The first key that a lower one equals, by the pairwise scan.
@@ -287,14 +340,14 @@ fn bounds(rng: &mut Rng, growth: &[(Outcome, &str, Vec<(f64, f64)>)]) {
     }
 }
 
-/// One line: both on the same inputs, in turn.
+/// One line: both on the same inputs, in turn. Gives the proved one's time.
 fn compare<T>(
     what: &str,
     size: usize,
     inputs: &[T],
     mut proved: impl FnMut(&T),
     mut plain: impl FnMut(&T),
-) {
+) -> f64 {
     let n = rounds(inputs, &mut proved);
     let (mut left, mut right) = (Vec::new(), Vec::new());
     for _ in 0..RUNS {
@@ -302,7 +355,13 @@ fn compare<T>(
         right.push(run(inputs, n, &mut plain));
     }
     let (p, y) = (median(left) / 1000.0, median(right) / 1000.0);
-    println!("{what:<31}{size:>6}{p:>13.3}{y:>13.3}{:>8.2}", p / y);
+    row(what, size, p, y);
+    p
+}
+
+fn row(what: &str, size: usize, proved: f64, plain: f64) {
+    let ratio = proved / plain;
+    println!("{what:<31}{size:>6}{proved:>13.3}{plain:>13.3}{ratio:>8.2}");
 }
 
 fn main() {

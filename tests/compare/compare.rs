@@ -1,13 +1,16 @@
 //! Judges seeded pairs of sheets by the proved judge and by the Rust judge, reads
-//! them by the readers, checks the list of every LAB, and stops at the first
-//! difference.
+//! them by the readers, checks the list of every LAB, writes them and others by the
+//! writers, and stops at the first difference.
 //! Arguments: number of pairs (200000), seed (1).
 
+mod faults;
 mod forms;
 mod generate;
 mod judge;
 mod plain;
 mod proved;
+mod writer;
+mod writes;
 
 use generate::*;
 use std::collections::HashSet;
@@ -440,19 +443,25 @@ fn compare_forms(
     forms::list(seen, &forms::any_list(rng, &case.exercise)).map(|_| ())
 }
 
+/// One line; gives whether some number did not occur.
+fn by_number(title: &str, counts: &[u64; 256], numbers: &[usize]) -> bool {
+    let each: Vec<String> = numbers
+        .iter()
+        .map(|&n| format!("{n}: {}", counts[n]))
+        .collect();
+    println!("{title}: {}", each.join(", "));
+    numbers.iter().any(|&n| counts[n] == 0)
+}
+
 /// What the readers and the list check gave, and whether some case did not occur.
 fn report_forms(seen: &forms::Counts) -> bool {
-    let by_number = |title: &str, counts: &[u64; 256], numbers: &[usize]| {
-        let each: Vec<String> = numbers
-            .iter()
-            .map(|&n| format!("{n}: {}", counts[n]))
-            .collect();
-        println!("{title}: {}", each.join(", "));
-        numbers.iter().any(|&n| counts[n] == 0)
-    };
     let openings = [0, 10, 11, 12, 13, 14, 20, 21, 22, 23, 25];
     let mut missing = by_number("sheets opened, by number", &seen.openings, &openings);
-    for (what, n) in [("cells", &seen.cells), ("places", &seen.places)] {
+    for (what, n) in [
+        ("cells", &seen.cells),
+        ("records", &seen.records),
+        ("places", &seen.places),
+    ] {
         println!("{what} read: {}, broken: {}, end: {}", n[0], n[1], n[2]);
         missing |= n.contains(&0);
     }
@@ -466,6 +475,40 @@ fn report_forms(seen: &forms::Counts) -> bool {
         seen.judged
     );
     missing || seen.judged == 0
+}
+
+/// The same for the writers.
+fn report_writes(seen: &writes::Counts) -> bool {
+    let mut missing = by_number(
+        "calls of the exercise writer, by number",
+        &seen.exercises,
+        &[0, 2, 13, 15, 16],
+    );
+    println!("13 for the nets and not for the records: {}", seen.nets);
+    missing |= by_number(
+        "calls of the answer writer, by number",
+        &seen.answers,
+        &[0, 2, 13, 23, 26],
+    );
+    println!(
+        "faults planted alone, refused with their number: {} of {} kinds",
+        seen.faults.iter().sum::<u64>(),
+        seen.faults.len()
+    );
+    for (what, [exercises, answers]) in [
+        (
+            "sheets written, read, judged and written again",
+            seen.circles,
+        ),
+        (
+            "sheets that pass, written again to the same bytes",
+            seen.kept,
+        ),
+    ] {
+        println!("{what}: {exercises} exercises, {answers} answers");
+        missing |= exercises == 0 || answers == 0;
+    }
+    missing || seen.nets == 0 || seen.faults.contains(&0)
 }
 
 fn main() {
@@ -489,8 +532,18 @@ fn main() {
     let mut counts = [0u64; 256];
     let mut places = HashSet::new();
     let mut seen = forms::Counts::new();
-    // The forms take nothing from the numbers that the pairs are made of.
+    // The forms and the writes take nothing from the numbers that the pairs are
+    // made of.
     let mut other = Rng::new(!seed);
+    let mut third = Rng::new(seed ^ 0x5555_5555);
+    let mut writes = writes::Writes::new();
+    match writes.settled(&mut third) {
+        Ok(calls) => println!("{calls} settled calls of the writers agree"),
+        Err(wrong) => {
+            print!("settled calls of the writers: {wrong}");
+            exit(1);
+        }
+    }
     let started = std::time::Instant::now();
     for i in 0..pairs {
         let case = generate::case(&mut rng);
@@ -520,9 +573,14 @@ fn main() {
         if place != NO {
             places.insert((n[0], place));
         }
-        if let Err(wrong) = compare_forms(&mut seen, &mut other, &case, &n, both.route()) {
+        let compared = compare_forms(&mut seen, &mut other, &case, &n, both.route())
+            .and_then(|()| writes.sheets(&mut third, fill, &case, n[0] as u8));
+        if let Err(wrong) = compared {
             let sheets = hex("exercise", &case.exercise) + &hex("answer", &case.answer);
             fail(wrong + &sheets);
+        }
+        if let Err(wrong) = writes.made(&mut third, fill) {
+            fail(wrong);
         }
     }
 
@@ -538,6 +596,7 @@ fn main() {
         missing |= counts[n as usize] == 0;
     }
     missing |= report_forms(&seen);
+    missing |= report_writes(&writes.counts);
     if missing {
         println!("a number did not occur");
         exit(1);

@@ -16,6 +16,7 @@ pub struct Said {
 pub struct Counts {
     pub openings: [u64; 256],
     pub cells: [u64; 3],
+    pub records: [u64; 3],
     pub places: [u64; 3],
     pub lists: [u64; 256],
     /// Lists of a LAB of which the Rust judge says the same.
@@ -27,6 +28,7 @@ impl Counts {
         Counts {
             openings: [0; 256],
             cells: [0; 3],
+            records: [0; 3],
             places: [0; 3],
             lists: [0; 256],
             judged: 0,
@@ -73,7 +75,7 @@ fn read_both<T: Copy + PartialEq + std::fmt::Debug>(
     }
 }
 
-fn same<T: PartialEq + std::fmt::Debug>(what: &str, got: T, want: T) -> Result<(), String> {
+pub fn same<T: PartialEq + std::fmt::Debug>(what: &str, got: T, want: T) -> Result<(), String> {
     if got == want {
         return Ok(());
     }
@@ -117,6 +119,12 @@ pub fn readers(
         |at| plain::next_cell(exercise, at),
         0,
     )?;
+    read_both(
+        &mut counts.records,
+        |at| proved::next_record(exercise, at),
+        |at| plain::next_cell(exercise, at),
+        0,
+    )?;
     let (places, misplaced) = read_both(
         &mut counts.places,
         |at| proved::next_place(answer, at),
@@ -155,6 +163,12 @@ pub fn readers(
         start,
     )?;
     read_both(
+        &mut counts.records,
+        |at| proved::next_record(exercise, at),
+        |at| plain::next_cell(exercise, at),
+        start,
+    )?;
+    read_both(
         &mut counts.places,
         |at| proved::next_place(answer, at),
         |at| plain::next_place(answer, at),
@@ -177,7 +191,8 @@ pub fn list(counts: &mut Counts, list: &[CellRecord]) -> Result<(u8, [u8; 8]), S
     Ok(a)
 }
 
-fn records(exercise: &[u8]) -> Vec<CellRecord> {
+/// All whole records of an exercise, as they stand.
+pub fn records(exercise: &[u8]) -> Vec<CellRecord> {
     let all = exercise.get(9..).unwrap_or(&[]);
     all.chunks_exact(24).map(plain::record).collect()
 }

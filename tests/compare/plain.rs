@@ -21,7 +21,7 @@ pub enum Step<T> {
     End,
 }
 
-fn word(b: &[u8], at: usize) -> u16 {
+pub fn word(b: &[u8], at: usize) -> u16 {
     let byte = |i: usize| b.get(i).copied().unwrap_or(0) as u16;
     byte(at) + 256 * byte(at + 1)
 }

@@ -1,4 +1,4 @@
-//! The proved judge, readers and list check, linked from the C static library.
+//! The proved judge, readers, writers and list check, linked from the C static library.
 #![allow(dead_code)]
 
 use crate::judge::Verdict;
@@ -28,7 +28,29 @@ extern "C" {
         at: *mut u16,
         place: *mut u16,
     ) -> u8;
+    fn nurimkkot_next_record(
+        exercise: *const u8,
+        exercise_len: usize,
+        at: *mut u16,
+        cell: *mut CellRecord,
+    ) -> u8;
     fn nurimkkot_check_lab(cells: *const CellRecord, count: usize, route: *mut u8) -> u8;
+    fn nurimkkot_write_exercise(
+        nets: u16,
+        cells: *const CellRecord,
+        count: usize,
+        sheet: *mut u8,
+        room: usize,
+        length: *mut usize,
+    ) -> u8;
+    fn nurimkkot_write_answer(
+        apprentice: u32,
+        places: *const u16,
+        count: usize,
+        sheet: *mut u8,
+        room: usize,
+        length: *mut usize,
+    ) -> u8;
 }
 
 /// Number, cell, LAB, apprentice, sheet, start and size as the library gives them.
@@ -98,12 +120,26 @@ pub fn next_cell(exercise: &[u8], at: u16) -> (Step<CellRecord>, u16) {
         flag: f[1] as u8,
         signals,
     };
-    let zeros = CellRecord {
-        kind: 0,
-        flag: 0,
-        signals: [0; 11],
+    (step(told, given, NO_RECORD), next)
+}
+
+const NO_RECORD: CellRecord = CellRecord {
+    kind: 0,
+    flag: 0,
+    signals: [0; 11],
+};
+
+/// The same by the reader that fills a record.
+pub fn next_record(exercise: &[u8], at: u16) -> (Step<CellRecord>, u16) {
+    let mut next = at;
+    let mut given = CellRecord {
+        kind: 0xad,
+        flag: 0xde,
+        signals: [0xdead; 11],
     };
-    (step(told, given, zeros), next)
+    let told =
+        unsafe { nurimkkot_next_record(exercise.as_ptr(), exercise.len(), &mut next, &mut given) };
+    (step(told, given, NO_RECORD), next)
 }
 
 pub fn next_place(answer: &[u8], at: u16) -> (Step<[u16; 3]>, u16) {
@@ -118,4 +154,35 @@ pub fn check_lab(cells: &[CellRecord]) -> (u8, [u8; 8]) {
     let mut route = [0xad; 8];
     let number = unsafe { nurimkkot_check_lab(cells.as_ptr(), cells.len(), route.as_mut_ptr()) };
     (number, route)
+}
+
+/// Number and length, as the library gives them.
+pub fn write_exercise(nets: u16, cells: &[CellRecord], sheet: &mut [u8]) -> (u8, usize) {
+    let mut length = 0xdead_beef;
+    let number = unsafe {
+        nurimkkot_write_exercise(
+            nets,
+            cells.as_ptr(),
+            cells.len(),
+            sheet.as_mut_ptr(),
+            sheet.len(),
+            &mut length,
+        )
+    };
+    (number, length)
+}
+
+pub fn write_answer(apprentice: u32, places: &[[u16; 3]], sheet: &mut [u8]) -> (u8, usize) {
+    let mut length = 0xdead_beef;
+    let number = unsafe {
+        nurimkkot_write_answer(
+            apprentice,
+            places.as_flattened().as_ptr(),
+            places.len(),
+            sheet.as_mut_ptr(),
+            sheet.len(),
+            &mut length,
+        )
+    };
+    (number, length)
 }

@@ -5,8 +5,11 @@ use lab_rules::LabResult;
 use list_check::CellRecord;
 use reader::AnswerStep;
 use reader::ExerciseStep;
+use writer::Cell;
+use writer::Spot;
 ghost use mathlib.Core.Path.{_≡_};
 ghost use mathlib.Core.Bool.{cond};
+ghost use Prim.Native.Nat.{_+_, _*_};
 ghost use lib.ListN.{length};
 ghost use Rattle.route.specs.Table.{houseBoard};
 ghost use Rattle.judge.specs.Call.{call};
@@ -16,6 +19,9 @@ ghost use Rattle.exercise.specs.Record.{combinationalValues, registerValues};
 ghost use Rattle.answer.specs.Answer.{openingNumber, placeValues};
 ghost use Rattle.reader.specs.Reader.{exerciseStepAt, nextExercise, answerStepAt, nextAnswer};
 ghost use Rattle.list_check.specs.ListCheck.{listVerdict};
+ghost use Rattle.writer.specs.Writing.{told, bufferAfter};
+ghost use Rattle.writer.specs.Exercises.{netlist, exerciseSheet, exerciseRefusal, packed};
+ghost use Rattle.writer.specs.Answers.{placement, answerSheet, answerRefusal};
 ghost use Rattle.c_api.specs.Told.{sevenNumbers, cellTold, cellFields, placeTold, placeFields};
 
 fn wide8(n: u8) -> u64
@@ -171,6 +177,75 @@ pub extern "C" fn nurimkkot_next_cell(exercise: &[u8], at: &mut u16, cell: &mut 
     cell_told(step)
 }
 
+// Kind 1 and the flag as one number, the flag in its high byte.
+fn combinational_kind(sums_cin: bool) -> u16
+    ensures { λ r. ⌜ r ≡ 1 + 256 * cond «sums_cin» 1 0 ⌝ }
+{
+    if sums_cin { 257 } else { 1 }
+}
+
+fn combinational_cell(c: CombinationalCell) -> Cell
+    ensures { λ r. ⌜ r ≡ packed (combinationalValues c) ⌝ }
+{
+    let kind = combinational_kind(c.sums_cin);
+    [
+        kind,
+        c.dataa.0,
+        c.datab.0,
+        c.datac.0,
+        c.datad.0,
+        c.cin.0,
+        c.combout.0,
+        c.cout.0,
+        0,
+        0,
+        0,
+        0,
+    ]
+}
+
+fn register_cell(r: RegisterCell) -> Cell
+    ensures { λ f. ⌜ f ≡ packed (registerValues r) ⌝ }
+{
+    [
+        2,
+        r.datain.0,
+        r.clk.0,
+        r.ena.0,
+        r.aclr.0,
+        r.sclr.0,
+        r.sload.0,
+        r.sdata.0,
+        r.regout.0,
+        0,
+        0,
+        0,
+    ]
+}
+
+fn packed_cell(step: ExerciseStep) -> Cell
+    ensures { λ r. ⌜ r ≡ packed (cellFields step) ⌝ }
+{
+    match step {
+        ExerciseStep::Combinational(c) => return combinational_cell(c),
+        ExerciseStep::Register(c) => return register_cell(c),
+        ExerciseStep::Broken => return [0u16; 12],
+        ExerciseStep::End => return [0u16; 12],
+    }
+}
+
+// The same with the record as twelve numbers, which lie as C's struct does: kind and flag are the two bytes of the first.
+#[no_mangle]
+pub extern "C" fn nurimkkot_next_record(exercise: &[u8], at: &mut u16, cell: &mut Cell) -> u8
+    ensures told { λ r. ⌜ r ≡ cellTold (exerciseStepAt (now (exercise .entry)) (now (at .entry))) ⌝ }
+    ensures fields { λ _. ⌜ now (cell .exit) ≡ packed (cellFields (exerciseStepAt (now (exercise .entry)) (now (at .entry)))) ⌝ }
+    ensures moved { λ _. ⌜ now (at .exit) ≡ nextExercise (now (exercise .entry)) (now (at .entry)) ⌝ }
+{
+    let step = reader::read_record(exercise, at);
+    *cell = packed_cell(step);
+    cell_told(step)
+}
+
 fn place_numbers(p: Place) -> [u16; 3]
     ensures { λ r. ⌜ r ≡ placeValues p ⌝ }
 {
@@ -230,4 +305,38 @@ pub extern "C" fn nurimkkot_check_lab(cells: &[CellRecord], route: &mut [u8; 8])
     ensures bytes { λ _. ⌜ now (route .exit) ≡ listVerdict houseBoard (now (cells .entry)) .bytes ⌝ }
 {
     tell(list_check::check_list(cells), route)
+}
+
+// Writes the exercise sheet of so many nets and these cells, and its length. A refusal leaves the buffer as it is, with length 0.
+#[no_mangle]
+pub extern "C" fn nurimkkot_write_exercise(
+    nets: u16,
+    cells: &[Cell],
+    sheet: &mut [u8],
+    size: &mut usize,
+) -> u8
+    ensures number { λ r. ⌜ r ≡ exerciseRefusal (netlist nets (now (cells .entry))) (length (now (sheet .entry))) ⌝ }
+    ensures bytes { λ _. ⌜ now (sheet .exit) ≡ bufferAfter (exerciseRefusal (netlist nets (now (cells .entry))) (length (now (sheet .entry)))) (exerciseSheet (netlist nets (now (cells .entry)))) (now (sheet .entry)) ⌝ }
+    ensures sized { λ _. ⌜ now (size .exit) ≡ told (exerciseRefusal (netlist nets (now (cells .entry))) (length (now (sheet .entry)))) (exerciseSheet (netlist nets (now (cells .entry)))) .length ⌝ }
+{
+    let written = writer::write_exercise(nets, cells, sheet);
+    *size = written.length;
+    written.number
+}
+
+// Writes the answer sheet of an apprentice's places in the same way.
+#[no_mangle]
+pub extern "C" fn nurimkkot_write_answer(
+    apprentice: u32,
+    places: &[Spot],
+    sheet: &mut [u8],
+    size: &mut usize,
+) -> u8
+    ensures number { λ r. ⌜ r ≡ answerRefusal (placement apprentice (now (places .entry))) (length (now (sheet .entry))) ⌝ }
+    ensures bytes { λ _. ⌜ now (sheet .exit) ≡ bufferAfter (answerRefusal (placement apprentice (now (places .entry))) (length (now (sheet .entry)))) (answerSheet (placement apprentice (now (places .entry)))) (now (sheet .entry)) ⌝ }
+    ensures sized { λ _. ⌜ now (size .exit) ≡ told (answerRefusal (placement apprentice (now (places .entry))) (length (now (sheet .entry)))) (answerSheet (placement apprentice (now (places .entry)))) .length ⌝ }
+{
+    let written = writer::write_answer(apprentice, places, sheet);
+    *size = written.length;
+    written.number
 }

@@ -6,9 +6,9 @@ use mathlib.Core.Path.{_≡_, refl, sym, ap, _∙_}
 use mathlib.Core.Bool.{Bool, true, false, cond, not}
 use mathlib.Core.List.{List, [], _∷_, _++_}
 use lib.ListN.{length, getD, drop, replicate, length-replicate, getD-replicate}
-use lib.Seq.{drop-cons, drop-length}
 use lib.Dec.{eqb, ltb}
 use borrow.Author.Tests.{eq-eqb, ne-eqb, eqb-true, eqb-false, not-true, lt-ltb, le-ltb}
+use Rattle.sheet.proofs.Scan.{Unmet, unmet-starts, unmet-goes, unmet-stops, unmet-ends}
 use Rattle.sheet.specs.Lists.{filterb, elemb, from, firstFrom}
 use Rattle.sheet.specs.Bytes.{beginsAt}
 use Rattle.exercise.specs.Exercise.{netCount, cellCount, exerciseNumber}
@@ -250,27 +250,20 @@ module _ (a : List ℕ) (n l i : ℕ) (s : Lowest a n l i) where
 pub ruleset lowest-steps = (lowest-starts, lowest-goes, lowest-stops, lowest-ends)
 
 -- ---- a number in a list: none of those before i is it
-pub record Unmet (n : ℕ) (l : List ℕ) (i : ℕ) : Type 0 where
-  pub within : i ≤ length l
-  pub same : elemb n l ≡ elemb n (drop i l)
+pub among-starts : (n : ℕ) (l : List ℕ) → Unmet (eqb n) l 0
+among-starts n l = unmet-starts (eqb n) l
 
-pub unmet-starts : (n : ℕ) (l : List ℕ) → Unmet n l 0
-unmet-starts n l = record { within = omega arith; same = refl }
+module _ (n : ℕ) (l : List ℕ) (i : ℕ) (s : Unmet (eqb n) l i) where
+  pub among-goes : i < length l → (getD l i 0 ≡ n → ⊥) → Unmet (eqb n) l (i + 1)
+  among-goes h d = unmet-goes (eqb n) l i s 0 h (ne-eqb n (getD l i 0) (λ q. d (sym q)))
 
-module _ (n : ℕ) (l : List ℕ) (i : ℕ) (s : Unmet n l i) where
-  pub unmet-goes : i < length l → (getD l i 0 ≡ n → ⊥) → Unmet n l (i + 1)
-  unmet-goes h d =
-      record { within = omega arith; same = s .same ∙ rw (drop-cons l i 0 h, ne-eqb n (getD l i 0) (λ q. d (sym q)), add-one) }
+  pub among-stops : i < length l → getD l i 0 ≡ n → true ≡ elemb n l
+  among-stops h e = unmet-stops (eqb n) l i s 0 h (eq-eqb n (getD l i 0) (sym e))
 
-  pub unmet-stops : i < length l → getD l i 0 ≡ n → true ≡ elemb n l
-  unmet-stops h e = sym (s .same ∙ rw (drop-cons l i 0 h, eq-eqb n (getD l i 0) (sym e)))
+  pub among-ends : length l ≤ i → false ≡ elemb n l
+  among-ends h = unmet-ends (eqb n) l i s h
 
-  pub unmet-ends : length l ≤ i → false ≡ elemb n l
-  unmet-ends h =
-      let all : i ≡ length l = omega (arith, s .within) in
-      sym (s .same ∙ rw (all, drop-length))
-
-pub ruleset unmet-steps = (unmet-starts, unmet-goes, unmet-stops, unmet-ends)
+pub ruleset among-steps = (among-starts, among-goes, among-stops, among-ends)
 
 -- ---- the culprit
 pub from-start : (b : Bool) (x y : ℕ) → x ≡ y → _≡_ {A = Part} (record { «of_answer» = b; start = 0; size = x }) (record { «of_answer» = b; start = 0; size = y })

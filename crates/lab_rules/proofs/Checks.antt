@@ -10,6 +10,7 @@ use Rattle.sheet.specs.Lists.{Every}
 use Rattle.sheet.specs.Checks.{Check, check, firstNumber}
 use Rattle.exercise.specs.declared.Record.{Record}
 use Rattle.sheet.proofs.Laws.{by-test}
+use Rattle.sheet.proofs.Checks.{all-held}
 use Rattle.route.specs.Table.{Table}
 use Rattle.lab_rules.specs.Rules.{tooManyClocks, tooManyPairs, tooManyClears, tooManySynchronous, noWay, labRules, labChecks, labNumber}
 
@@ -26,10 +27,6 @@ found : (P : ℕ → Type 0) → P 0 → (ks : List Check) → Every (λ k. P (k
 found P z [] h = z
 found P z (k ∷ ks) h = by-test (k .broken) (λ b. rw b (h .0)) (λ b. rw b (found P z ks (h .1)))
 
-all-held : (ks : List Check) → Numbered ks → firstNumber ks ≡ 0 → Every (λ k. k .broken ≡ false) ks
-all-held [] n e = tt
-all-held (k ∷ ks) n e = by-test (k .broken) (λ b. absurd (n .0 (rw b at e))) (λ b. (b, all-held ks (n .1) (rw b at e)))
-
 -- ---- the rules of a LAB
 module _ (cs : List Record) where
   rules-numbered : Numbered (labRules cs)
@@ -37,7 +34,7 @@ module _ (cs : List Record) where
 
   pub rules-held : firstNumber (labRules cs) ≡ 0
       → (tooManyClocks cs ≡ false) × (tooManyPairs cs ≡ false) × (tooManyClears cs ≡ false) × (tooManySynchronous cs ≡ false)
-  rules-held z = let h = all-held (labRules cs) rules-numbered z in (h .0, h .1 .0, h .1 .1 .0, h .1 .1 .1 .0)
+  rules-held z = let h = all-held (labRules cs) refl z in (h .0, h .1 .0, h .1 .1 .0, h .1 .1 .1 .0)
 
   pub rules-low : firstNumber (labRules cs) < 65
   rules-low = found (λ n. n < 65) (omega arith) (labRules cs) (omega arith, (omega arith, (omega arith, (omega arith, (omega arith, tt)))))

@@ -1,11 +1,12 @@
 -- Document 01, the check of one LAB on a lent list of its cell records: 18, then 60 to 65 of those cells. `t` is the entry table, `cs` is the list.
 -- Assumes nothing.
-use Prim.Native.Nat.{ℕ, _/_, _%_}
+use Prim.Native.Nat.{ℕ}
 use mathlib.Core.Bool.{Bool, true, false, cond, not, _||_}
 use mathlib.Core.List.{List, [], _∷_, map}
 use lib.ListN.{length, getD, replicate}
 use lib.Dec.{eqb, ltb}
 use Rattle.sheet.specs.Lists.{anyb}
+use Rattle.sheet.specs.Bytes.{lowByte, highByte}
 use Rattle.sheet.specs.Checks.{check, firstNumber}
 use Rattle.exercise.specs.Record.{recordOf}
 use Rattle.exercise.specs.declared.Record.{Record}
@@ -15,12 +16,6 @@ use Rattle.lab_rules.specs.declared.LabResult.{LabResult}
 use Rattle.lab_rules.specs.Rules.{labChecks, routeOf}
 use Rattle.netlist.specs.Cells.{registerChecks}
 use Rattle.list_check.specs.declared.CellRecord.{CellRecord}
-
-abbrev pub lowByte : ℕ → ℕ
-lowByte s = s % 256
-
-abbrev pub highByte : ℕ → ℕ
-highByte s = s / 256
 
 -- signal j of the eleven
 abbrev pub signal : CellRecord → ℕ → ℕ

@@ -4,7 +4,7 @@ use lab_rules::LabResult;
 ghost use mathlib.Core.Path.{_≡_};
 ghost use Rattle.route.specs.Table.{houseBoard};
 ghost use Rattle.lab_rules.specs.passes.Counts.{refused};
-ghost use Rattle.list_check.specs.ListCheck.{lowByte, highByte, bytesOf, recordFrom, unfit, listVerdict};
+ghost use Rattle.list_check.specs.ListCheck.{bytesOf, recordFrom, unfit, listVerdict};
 ghost use Rattle.list_check.specs.passes.State.{noState, stateWith, finished};
 
 // The fields of a cell's record: kind, flag, eleven signals.
@@ -22,18 +22,6 @@ pub struct ListState {
     pub marks: [u8; 1024],
 }
 
-fn low(signal: u16) -> u8
-    ensures { λ r. ⌜ r ≡ lowByte signal ⌝ }
-{
-    (signal % 256) as u8
-}
-
-fn high(signal: u16) -> u8
-    ensures { λ r. ⌜ r ≡ highByte signal ⌝ }
-{
-    (signal / 256) as u8
-}
-
 // The 24 bytes of a record.
 fn bytes_of(cell: CellRecord) -> [u8; 24]
     ensures { λ r. ⌜ r ≡ bytesOf cell ⌝ }
@@ -42,28 +30,28 @@ fn bytes_of(cell: CellRecord) -> [u8; 24]
     [
         cell.kind,
         cell.flag,
-        low(s[0]),
-        high(s[0]),
-        low(s[1]),
-        high(s[1]),
-        low(s[2]),
-        high(s[2]),
-        low(s[3]),
-        high(s[3]),
-        low(s[4]),
-        high(s[4]),
-        low(s[5]),
-        high(s[5]),
-        low(s[6]),
-        high(s[6]),
-        low(s[7]),
-        high(s[7]),
-        low(s[8]),
-        high(s[8]),
-        low(s[9]),
-        high(s[9]),
-        low(s[10]),
-        high(s[10]),
+        sheet::low_byte(s[0]),
+        sheet::high_byte(s[0]),
+        sheet::low_byte(s[1]),
+        sheet::high_byte(s[1]),
+        sheet::low_byte(s[2]),
+        sheet::high_byte(s[2]),
+        sheet::low_byte(s[3]),
+        sheet::high_byte(s[3]),
+        sheet::low_byte(s[4]),
+        sheet::high_byte(s[4]),
+        sheet::low_byte(s[5]),
+        sheet::high_byte(s[5]),
+        sheet::low_byte(s[6]),
+        sheet::high_byte(s[6]),
+        sheet::low_byte(s[7]),
+        sheet::high_byte(s[7]),
+        sheet::low_byte(s[8]),
+        sheet::high_byte(s[8]),
+        sheet::low_byte(s[9]),
+        sheet::high_byte(s[9]),
+        sheet::low_byte(s[10]),
+        sheet::high_byte(s[10]),
     ]
 }
 

@@ -6,14 +6,11 @@ use native.Mathlib.Omega.{arith}
 use native.Mathlib.Numerals.{add-one}
 use lib.ListN.{length, set, getD, take, drop, length-append, drop-of-length-le}
 use lib.Seq.{set-out, drop-cons, sets, length-sets, sets-eq, take-append-seam}
+use Rattle.sheet.proofs.Lists.{sets-append}
 use Rattle.listing.specs.Text.{overwrite}
 use Rattle.listing.specs.passes.Writes.{Fits, Writes}
 
 -- ---- the buffer
-sets-append : (l : List ℕ) (at : ℕ) (a b : List ℕ) → sets (sets l at a) (at + length a) b ≡ sets l at (a ++ b)
-sets-append l at [] b = let e : at + 0 ≡ at = omega arith in rw e
-sets-append l at (x ∷ a) b = let e : at + suc (length a) ≡ suc at + length a = omega arith in rw e (sets-append (set l at x) (suc at) a b)
-
 -- a text and another after it are one text
 over-append : (l : List ℕ) (at : ℕ) (a b : List ℕ) → overwrite (overwrite l at a) (at + length a) b ≡ overwrite l at (a ++ b)
 unfolding overwrite

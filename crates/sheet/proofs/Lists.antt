@@ -5,7 +5,8 @@ use mathlib.Core.Bool.{Bool, true, false, _&&_, _||_, or-assoc, or-false, or-tru
 use mathlib.Core.List.{List, [], _∷_, _++_, append-assoc, append-nil}
 use native.Mathlib.Nat.{zero-add}
 use native.Mathlib.Omega.{arith}
-use lib.ListN.{length, getD, replicate}
+use lib.ListN.{length, getD, set, replicate}
+use lib.Seq.{sets}
 use lib.Dec.{eqb}
 use borrow.Author.Tests.{eqb-true, eqb-false, eq-eqb, ne-eqb}
 use Rattle.sheet.specs.Lists.{concatMap, filterb, anyb, from, below, elemb}
@@ -79,6 +80,11 @@ getD-all zero k a = refl
 getD-all (suc n) zero a = refl
 getD-all (suc n) (suc k) a = getD-all n k a
 
+-- what is stored from a place on, and more right after it, is stored as one
+pub sets-append : {A : Type 0} (l : List A) (at : ℕ) (a b : List A) → sets (sets l at a) (at + length a) b ≡ sets l at (a ++ b)
+sets-append l at [] b = let e : at + 0 ≡ at = omega arith in rw e
+sets-append l at (x ∷ a) b = let e : at + suc (length a) ≡ suc at + length a = omega arith in rw e (sets-append (set l at x) (suc at) a b)
+
 pub concat-append : {A B : Type 0} (f : A → List B) (xs ys : List A) → concatMap f (xs ++ ys) ≡ concatMap f xs ++ concatMap f ys
 concat-append f [] ys = refl
 concat-append f (x ∷ xs) ys = rw (concat-append f xs ys) (sym (append-assoc (f x) (concatMap f xs) (concatMap f ys)))
@@ -96,3 +102,12 @@ any-suc p n = ap (anyb p) (below-suc n) ∙ any-append p (below n) (n ∷ []) �
 
 pub concat-suc : {B : Type 0} (f : ℕ → List B) (n : ℕ) → concatMap f (below (suc n)) ≡ concatMap f (below n) ++ f n
 concat-suc f n = ap (concatMap f) (below-suc n) ∙ concat-append f (below n) (n ∷ []) ∙ rw (append-nil (f n))
+
+-- a test of all elements, by their numbers
+any-shift : (f : ℕ → Bool) (i k : ℕ) → anyb f (from (suc i) k) ≡ anyb (λ j. f (suc j)) (from i k)
+any-shift f i zero = refl
+any-shift f i (suc k) = rw (any-shift f (suc i) k)
+
+pub any-getD : {A : Type 0} (p : A → Bool) (d : A) (xs : List A) → anyb (λ i. p (getD xs i d)) (below (length xs)) ≡ anyb p xs
+any-getD p d [] = refl
+any-getD p d (x ∷ xs) = rw (any-shift (λ i. p (getD (x ∷ xs) i d)) 0 (length xs), any-getD p d xs)

@@ -1,13 +1,15 @@
 -- The loop's invariant: none of the numbers before i is the one looked for.
-use Rattle.judge.proofs.Steps.{Unmet, unmet-steps}
+use Rattle.sheet.proofs.Scan.{Unmet}
+use Rattle.judge.proofs.Steps.{among-steps}
 use Prim.Native.Nat.{_-_}
 use lib.ListN.{length}
+use lib.Dec.{eqb}
 use borrow.Author.Needs.{needs}
 use Rattle.judge.proofs.is_among.Statement.{statement}
 use Rattle.judge.proofs.is_among.Tie as tie
 
 abbrev Inv-loop : tie.InvT-loop
-Inv-loop number list i₀ i = Unmet number list i
+Inv-loop number list i₀ i = Unmet (eqb number) list i
 
 abbrev μ-loop : tie.MeasureT-loop
 μ-loop number list i₀ i = length list - i
@@ -18,10 +20,10 @@ is-among-spec =
     (tie.spec
     Inv-loop
     μ-loop
-    (λ c. search unmet-steps)  -- loop-holds
+    (λ c. search among-steps)  -- loop-holds
     (λ c. search needs)  -- shared-slice-read-if1
-    (λ c. search unmet-steps)  -- returns
+    (λ c. search among-steps)  -- returns
     (λ c. search needs)  -- add-i
     (λ c. search needs)  -- loop-less
-    (λ c. search unmet-steps)  -- loop-again
-    (λ c. search unmet-steps))  -- returns-2
+    (λ c. search among-steps)  -- loop-again
+    (λ c. search among-steps))  -- returns-2

@@ -16,48 +16,48 @@ unfolding bytesOf
 bytes-of-spec =
     tie.close
     (tie.spec
-    (λ c. search needs)  -- array-read-low
-    (λ c κs. search needs)  -- low-requires
-    (λ c. search needs)  -- array-read-high
-    (λ c κs. search needs)  -- high-requires
-    (λ c. search needs)  -- array-read-low-2
-    (λ c κs. search needs)  -- low-requires-2
-    (λ c. search needs)  -- array-read-high-2
-    (λ c κs. search needs)  -- high-requires-2
-    (λ c. search needs)  -- array-read-low-3
-    (λ c κs. search needs)  -- low-requires-3
-    (λ c. search needs)  -- array-read-high-3
-    (λ c κs. search needs)  -- high-requires-3
-    (λ c. search needs)  -- array-read-low-4
-    (λ c κs. search needs)  -- low-requires-4
-    (λ c. search needs)  -- array-read-high-4
-    (λ c κs. search needs)  -- high-requires-4
-    (λ c. search needs)  -- array-read-low-5
-    (λ c κs. search needs)  -- low-requires-5
-    (λ c. search needs)  -- array-read-high-5
-    (λ c κs. search needs)  -- high-requires-5
-    (λ c. search needs)  -- array-read-low-6
-    (λ c κs. search needs)  -- low-requires-6
-    (λ c. search needs)  -- array-read-high-6
-    (λ c κs. search needs)  -- high-requires-6
-    (λ c. search needs)  -- array-read-low-7
-    (λ c κs. search needs)  -- low-requires-7
-    (λ c. search needs)  -- array-read-high-7
-    (λ c κs. search needs)  -- high-requires-7
-    (λ c. search needs)  -- array-read-low-8
-    (λ c κs. search needs)  -- low-requires-8
-    (λ c. search needs)  -- array-read-high-8
-    (λ c κs. search needs)  -- high-requires-8
-    (λ c. search needs)  -- array-read-low-9
-    (λ c κs. search needs)  -- low-requires-9
-    (λ c. search needs)  -- array-read-high-9
-    (λ c κs. search needs)  -- high-requires-9
-    (λ c. search needs)  -- array-read-low-10
-    (λ c κs. search needs)  -- low-requires-10
-    (λ c. search needs)  -- array-read-high-10
-    (λ c κs. search needs)  -- high-requires-10
-    (λ c. search needs)  -- array-read-low-11
-    (λ c κs. search needs)  -- low-requires-11
-    (λ c. search needs)  -- array-read-high-11
-    (λ c κs. search needs)  -- high-requires-11
-    (λ c. cons refl (cons refl (cons (c .before .before .before .before .before .before .before .before .before .before .before .before .before .before .before .before .before .before .before .before .before .low .ensures) (cons (c .before .before .before .before .before .before .before .before .before .before .before .before .before .before .before .before .before .before .before .before .high .ensures) (cons (c .before .before .before .before .before .before .before .before .before .before .before .before .before .before .before .before .before .before .before .low2 .ensures) (cons (c .before .before .before .before .before .before .before .before .before .before .before .before .before .before .before .before .before .before .high2 .ensures) (cons (c .before .before .before .before .before .before .before .before .before .before .before .before .before .before .before .before .before .low3 .ensures) (cons (c .before .before .before .before .before .before .before .before .before .before .before .before .before .before .before .before .high3 .ensures) (cons (c .before .before .before .before .before .before .before .before .before .before .before .before .before .before .before .low4 .ensures) (cons (c .before .before .before .before .before .before .before .before .before .before .before .before .before .before .high4 .ensures) (cons (c .before .before .before .before .before .before .before .before .before .before .before .before .before .low5 .ensures) (cons (c .before .before .before .before .before .before .before .before .before .before .before .before .high5 .ensures) (cons (c .before .before .before .before .before .before .before .before .before .before .before .low6 .ensures) (cons (c .before .before .before .before .before .before .before .before .before .before .high6 .ensures) (cons (c .before .before .before .before .before .before .before .before .before .low7 .ensures) (cons (c .before .before .before .before .before .before .before .before .high7 .ensures) (cons (c .before .before .before .before .before .before .before .low8 .ensures) (cons (c .before .before .before .before .before .before .high8 .ensures) (cons (c .before .before .before .before .before .low9 .ensures) (cons (c .before .before .before .before .high9 .ensures) (cons (c .before .before .before .low10 .ensures) (cons (c .before .before .high10 .ensures) (cons (c .before .low11 .ensures) (cons (c .high11 .ensures) refl)))))))))))))))))))))))))  -- returns
+    (λ c. search needs)  -- array-read-low-byte
+    (λ c κs. search needs)  -- low-byte-requires
+    (λ c. search needs)  -- array-read-high-byte
+    (λ c κs. search needs)  -- high-byte-requires
+    (λ c. search needs)  -- array-read-low-byte-2
+    (λ c κs. search needs)  -- low-byte-requires-2
+    (λ c. search needs)  -- array-read-high-byte-2
+    (λ c κs. search needs)  -- high-byte-requires-2
+    (λ c. search needs)  -- array-read-low-byte-3
+    (λ c κs. search needs)  -- low-byte-requires-3
+    (λ c. search needs)  -- array-read-high-byte-3
+    (λ c κs. search needs)  -- high-byte-requires-3
+    (λ c. search needs)  -- array-read-low-byte-4
+    (λ c κs. search needs)  -- low-byte-requires-4
+    (λ c. search needs)  -- array-read-high-byte-4
+    (λ c κs. search needs)  -- high-byte-requires-4
+    (λ c. search needs)  -- array-read-low-byte-5
+    (λ c κs. search needs)  -- low-byte-requires-5
+    (λ c. search needs)  -- array-read-high-byte-5
+    (λ c κs. search needs)  -- high-byte-requires-5
+    (λ c. search needs)  -- array-read-low-byte-6
+    (λ c κs. search needs)  -- low-byte-requires-6
+    (λ c. search needs)  -- array-read-high-byte-6
+    (λ c κs. search needs)  -- high-byte-requires-6
+    (λ c. search needs)  -- array-read-low-byte-7
+    (λ c κs. search needs)  -- low-byte-requires-7
+    (λ c. search needs)  -- array-read-high-byte-7
+    (λ c κs. search needs)  -- high-byte-requires-7
+    (λ c. search needs)  -- array-read-low-byte-8
+    (λ c κs. search needs)  -- low-byte-requires-8
+    (λ c. search needs)  -- array-read-high-byte-8
+    (λ c κs. search needs)  -- high-byte-requires-8
+    (λ c. search needs)  -- array-read-low-byte-9
+    (λ c κs. search needs)  -- low-byte-requires-9
+    (λ c. search needs)  -- array-read-high-byte-9
+    (λ c κs. search needs)  -- high-byte-requires-9
+    (λ c. search needs)  -- array-read-low-byte-10
+    (λ c κs. search needs)  -- low-byte-requires-10
+    (λ c. search needs)  -- array-read-high-byte-10
+    (λ c κs. search needs)  -- high-byte-requires-10
+    (λ c. search needs)  -- array-read-low-byte-11
+    (λ c κs. search needs)  -- low-byte-requires-11
+    (λ c. search needs)  -- array-read-high-byte-11
+    (λ c κs. search needs)  -- high-byte-requires-11
+    (λ c. cons refl (cons refl (cons (c .before .before .before .before .before .before .before .before .before .before .before .before .before .before .before .before .before .before .before .before .before .low-byte .ensures) (cons (c .before .before .before .before .before .before .before .before .before .before .before .before .before .before .before .before .before .before .before .before .high-byte .ensures) (cons (c .before .before .before .before .before .before .before .before .before .before .before .before .before .before .before .before .before .before .before .low-byte2 .ensures) (cons (c .before .before .before .before .before .before .before .before .before .before .before .before .before .before .before .before .before .before .high-byte2 .ensures) (cons (c .before .before .before .before .before .before .before .before .before .before .before .before .before .before .before .before .before .low-byte3 .ensures) (cons (c .before .before .before .before .before .before .before .before .before .before .before .before .before .before .before .before .high-byte3 .ensures) (cons (c .before .before .before .before .before .before .before .before .before .before .before .before .before .before .before .low-byte4 .ensures) (cons (c .before .before .before .before .before .before .before .before .before .before .before .before .before .before .high-byte4 .ensures) (cons (c .before .before .before .before .before .before .before .before .before .before .before .before .before .low-byte5 .ensures) (cons (c .before .before .before .before .before .before .before .before .before .before .before .before .high-byte5 .ensures) (cons (c .before .before .before .before .before .before .before .before .before .before .before .low-byte6 .ensures) (cons (c .before .before .before .before .before .before .before .before .before .before .high-byte6 .ensures) (cons (c .before .before .before .before .before .before .before .before .before .low-byte7 .ensures) (cons (c .before .before .before .before .before .before .before .before .high-byte7 .ensures) (cons (c .before .before .before .before .before .before .before .low-byte8 .ensures) (cons (c .before .before .before .before .before .before .high-byte8 .ensures) (cons (c .before .before .before .before .before .low-byte9 .ensures) (cons (c .before .before .before .before .high-byte9 .ensures) (cons (c .before .before .before .low-byte10 .ensures) (cons (c .before .before .high-byte10 .ensures) (cons (c .before .low-byte11 .ensures) (cons (c .high-byte11 .ensures) refl)))))))))))))))))))))))))  -- returns

@@ -1,0 +1,130 @@
+-- What the two laws of both writers share: lists read number by number, a sheet put together again from its parts, and
+-- the laws themselves from what is proved of a format. Assumes nothing.
+use Prim.Native.Nat.{ℕ, zero, suc, _+_, _*_, _/_, _%_, _≤_, _<_}
+use mathlib.Core.Path.{_≡_, refl, sym, ap, _∙_}
+use mathlib.Core.Bool.{Bool, false, _&&_}
+use mathlib.Core.List.{List, [], _∷_, _++_, map}
+use native.Mathlib.Nat.{mul-zero, mul-suc, add-comm}
+use native.Mathlib.Omega.{arith}
+use lib.ListN.{length, getD, take, drop, length-drop, length-map, take-append-drop}
+use lib.Seq.{length-take-le, take-all, take-add, drop-drop, getD-take, getD-drop, take-append-seam, drop-append-seam}
+use lib.Dec.{eqb}
+use borrow.Author.Tests.{eqb-true, not-false}
+use Rattle.sheet.specs.Lists.{concatMap, Every, anyb, from, below}
+use Rattle.sheet.specs.Bytes.{byteAt, u16At, u16Bytes}
+use Rattle.sheet.specs.Header.{wrongMark, wrongVersion}
+use Rattle.sheet.proofs.Laws.{and-parts}
+use Rattle.sheet.proofs.First.{none-below}
+use Rattle.sheet.proofs.Scan.{any-below}
+use Rattle.writer.specs.Laws.{Format, AllBytes, TwoLaws}
+
+-- ---- tests
+pub none-at : (f : ℕ → Bool) (n : ℕ) → anyb f (below n) ≡ false → (i : ℕ) → i < n → f i ≡ false
+none-at f n h = none-below f n (sym (any-below f n) ∙ h)
+
+-- ---- lists
+pub every-at : {A : Type 0} (P : A → Type 0) (d : A) (xs : List A) → Every P xs → (i : ℕ) → i < length xs → P (getD xs i d)
+every-at P d [] h i l = absurd (omega arith)
+every-at P d (x ∷ xs) h zero l = h .0
+every-at P d (x ∷ xs) h (suc i) l = every-at P d xs (h .1) i (omega arith)
+
+from-length : (b n : ℕ) → length (from b n) ≡ n
+from-length b zero = refl
+from-length b (suc n) = ap suc (from-length (suc b) n)
+
+module _ {A : Type 0} (g : ℕ → A) where
+  pub table-length : (n : ℕ) → length (map g (below n)) ≡ n
+  table-length n = length-map (below n) g ∙ from-length 0 n
+
+  -- a table of what a list has at each place is the list
+  table-from : (d : A) (b : ℕ) (xs : List A) → ((i : ℕ) → i < length xs → g (b + i) ≡ getD xs i d) → map g (from b (length xs)) ≡ xs
+  table-from d b [] h = refl
+  table-from d b (x ∷ xs) h =
+      let first : g b ≡ x = ap g (omega arith) ∙ h 0 (omega arith) in
+      rw (first, table-from d (suc b) xs (λ i l. ap g (omega arith) ∙ h (suc i) (omega arith)))
+
+  pub table-is : (d : A) (xs : List A) → ((i : ℕ) → i < length xs → g i ≡ getD xs i d) → map g (below (length xs)) ≡ xs
+  table-is d xs h = table-from d 0 xs (λ i l. ap g (omega arith) ∙ h i l)
+
+pub front-is : (s : List ℕ) (n : ℕ) → n ≤ length s → map (byteAt s) (below n) ≡ take n s
+front-is s n h =
+    let size = length-take-le n s h in
+    rw size at (table-is (byteAt s) 0 (take n s) (λ i l. sym (getD-take n s i 0 (omega arith))))
+
+pub whole-is : (s : List ℕ) (n : ℕ) → length s ≡ n → map (byteAt s) (below n) ≡ s
+whole-is s n h = front-is s n (omega arith) ∙ take-all n s (omega arith)
+
+-- ---- bytes
+pub joined : (n : ℕ) → n % 256 + 256 * (n / 256) ≡ n
+joined n = omega arith
+
+pub part-bytes : (s : List ℕ) (start size : ℕ) → AllBytes s → AllBytes (take size (drop start s))
+part-bytes s start size b = front size (drop start s) (λ i. rw (getD-drop start s i 0) (b (start + i)))
+  where
+    front : (n : ℕ) (l : List ℕ) → AllBytes l → AllBytes (take n l)
+    front zero l b i = omega arith
+    front (suc n) [] b i = omega arith
+    front (suc n) (x ∷ l) b zero = b zero
+    front (suc n) (x ∷ l) b (suc i) = front n l (λ j. b (suc j)) i
+
+-- two bytes are those of the number that they say, whatever follows
+pub two-again : (s : List ℕ) (k : ℕ) {xs ys : List ℕ} → AllBytes s → xs ≡ ys
+    → u16Bytes (u16At s k) ++ xs ≡ byteAt s k ∷ byteAt s (k + 1) ∷ ys
+two-again s k b e =
+    let low = b k in
+    let l : u16At s k % 256 ≡ byteAt s k = omega arith in
+    let h : u16At s k / 256 ≡ byteAt s (k + 1) = omega arith in
+    rw (l, h, e)
+
+-- and so are the mark and the version
+pub mark-again : (third : ℕ) (s : List ℕ) {xs ys : List ℕ} → wrongMark third s ≡ false → wrongVersion s ≡ false → xs ≡ ys
+    → 76 ∷ 88 ∷ third ∷ 1 ∷ 0 ∷ xs ≡ byteAt s 0 ∷ byteAt s 1 ∷ byteAt s 2 ∷ byteAt s 3 ∷ byteAt s 4 ∷ ys
+unfolding wrongMark wrongVersion
+mark-again third s m v e =
+    let (lx, z) = and-parts (eqb (byteAt s 0) 76 && eqb (byteAt s 1) 88) (eqb (byteAt s 2) third) (not-false _ m) in
+    let (l, x) = and-parts (eqb (byteAt s 0) 76) (eqb (byteAt s 1) 88) lx in
+    let one = eqb-true (u16At s 3) 1 (not-false _ v) in
+    let e3 : byteAt s 3 ≡ 1 = omega arith in
+    let e4 : byteAt s 4 ≡ 0 = omega arith in
+    rw (eqb-true (byteAt s 0) 76 l, eqb-true (byteAt s 1) 88 x, eqb-true (byteAt s 2) third z, e3, e4, e)
+
+-- ---- a sheet of a head and n parts, each the bytes of what it says
+module _ (h w : ℕ) (bytes : List ℕ → List ℕ) (s : List ℕ) (g : ℕ → List ℕ) where
+  parts-from : (b n : ℕ) → ((i : ℕ) → i < b + n → bytes (g i) ≡ take w (drop (h + w * i) s))
+      → concatMap bytes (map g (from b n)) ≡ take (w * n) (drop (h + w * b) s)
+  parts-from b zero e = rw (mul-zero w)
+  parts-from b (suc n) e =
+      let next : h + w * suc b ≡ h + w * b + w = rw (mul-suc w b) (omega arith) in
+      let d = drop (h + w * b) s in
+      rw (e b (omega arith), parts-from (suc b) n (λ i l. e i (omega arith)), next, mul-suc w n, add-comm (w * n) w)
+      (rw (take-add w (w * n) d, drop-drop w (h + w * b) s))
+
+  pub sheet-again : (n : ℕ) → length s ≡ h + w * n → ((i : ℕ) → i < n → bytes (g i) ≡ take w (drop (h + w * i) s))
+      → take h s ++ concatMap bytes (map g (below n)) ≡ s
+  sheet-again n size e =
+      let rest : length (drop h s) ≤ w * n = rw (length-drop h s, size) (omega arith) in
+      let start : h + w * 0 ≡ h = omega arith in
+      rw (parts-from 0 n (λ i l. e i (omega arith)), start, take-all (w * n) (drop h s) rest) (take-append-drop h s)
+
+-- ---- the two laws of a format, from what it writes where it does not refuse, and from a sheet that passes
+module _ {A : Type 0} (F : Format A)
+    (writes : (x : A) (room : ℕ) → F .Given x → F .refusal x room ≡ 0
+    → (length (F .sheet x) ≤ room) × F .Passes (F .sheet x) × (F .says (F .sheet x) ≡ x))
+    (again : (s : List ℕ) → AllBytes s → (room : ℕ) → F .Passes s → length s ≤ room
+    → (F .sheet (F .says s) ≡ s) × (F .refusal (F .says s) room ≡ 0)) where
+  pub two-laws : TwoLaws F
+  two-laws = record {
+    reads-back = λ x lent given h.
+        let (fits, passes, same) = writes x (length lent) given h in
+        let s = F .sheet x in
+        let front = take-append-seam s (drop (length s) lent) in
+        record {
+          within = rw h fits;
+          passes = rw (h, front) passes;
+          same = rw (h, front) same;
+          stays = rw h (drop-append-seam s (drop (length s) lent));
+        };
+    written-again = λ s lent b p fits.
+        let (same, free) = again s b (length lent) p fits in
+        record { not-refused = free; same-length = rw (free, same); same-bytes = rw (free, same) };
+  }

@@ -1,0 +1,26 @@
+-- What room a sheet needs, without a product that could be too large. Assumes nothing.
+use Prim.Native.Nat.{ℕ, _+_, _-_, _*_, _/_, _<_, _≤_}
+use mathlib.Core.Path.{_≡_, sym}
+use mathlib.Core.Bool.{true}
+use native.Mathlib.Nat.{mul-comm, div-lt-iff-lt-mul}
+use native.Mathlib.Omega.{arith}
+use lib.Dec.{ltb}
+use borrow.Author.Tests.{lt-ltb, ltb-true, ltb-false}
+use Rattle.sheet.proofs.Laws.{by-test}
+
+-- a buffer shorter than the head has no room
+pub short-head : (room head more : ℕ) → room < head → true ≡ ltb room (head + more)
+short-head room head more h = sym (lt-ltb room (head + more) (omega arith))
+
+-- what is left after the head has room for fewer records than there are exactly where the buffer is too short
+pub short-records : (room head each total : ℕ) → 0 < each → head ≤ room → ltb ((room - head) / each) total ≡ ltb room (head + each * total)
+short-records room head each total e h =
+    let fewer = div-lt-iff-lt-mul {k = each} {x = room - head} {y = total} e in
+    by-test (ltb room (head + each * total))
+    (λ t. let l = ltb-true room (head + each * total) t in
+    let m : room - head < total * each = rw (mul-comm total each) (omega arith) in
+    rw t (lt-ltb ((room - head) / each) total (fewer .1 m)))
+    (λ t. let l = ltb-false room (head + each * total) t in
+    by-test (ltb ((room - head) / each) total)
+    (λ u. let m : room - head < each * total = rw (mul-comm total each) at (fewer .0 (ltb-true ((room - head) / each) total u)) in absurd (omega arith))
+    (λ u. rw (t, u)))

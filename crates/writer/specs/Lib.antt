@@ -1,0 +1,5 @@
+pub mod Writing
+pub mod Exercises
+pub mod Answers
+pub mod Laws
+pub mod passes
