@@ -16,8 +16,8 @@
  * Every call returns. It allocates nothing and keeps nothing, so threads may call at the same time, where none writes what another
  * uses.
  *
- * Stack: nurimkkot_judge uses less than 48 KiB, nurimkkot_check_lab less than 8 KiB, each reader less than 1 KiB. That is measured,
- * not proved: tests/c/stack.c fails above these figures. */
+ * Stack: nurimkkot_judge uses less than 48 KiB, nurimkkot_write_exercise less than 16 KiB, nurimkkot_check_lab less than 8 KiB, each
+ * reader and nurimkkot_write_answer less than 1 KiB. That is measured, not proved: tests/c/stack.c fails above these figures. */
 #ifndef NURIMKKOT_H
 #define NURIMKKOT_H
 

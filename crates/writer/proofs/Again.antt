@@ -46,13 +46,21 @@ module _ {A : Type 0} (g : ℕ → A) where
   pub table-is : (d : A) (xs : List A) → ((i : ℕ) → i < length xs → g i ≡ getD xs i d) → map g (below (length xs)) ≡ xs
   table-is d xs h = table-from d 0 xs (λ i l. ap g (omega arith) ∙ h i l)
 
-pub front-is : (s : List ℕ) (n : ℕ) → n ≤ length s → map (byteAt s) (below n) ≡ take n s
-front-is s n h =
+  table-from-at : (d : A) (b n i : ℕ) → i < n → getD (map g (from b n)) i d ≡ g (b + i)
+  table-from-at d b zero i l = absurd (omega arith)
+  table-from-at d b (suc n) zero l = ap g (omega arith)
+  table-from-at d b (suc n) (suc i) l = table-from-at d (suc b) n i (omega arith) ∙ ap g (omega arith)
+
+  pub table-at : (d : A) (n i : ℕ) → i < n → getD (map g (below n)) i d ≡ g i
+  table-at d n i l = table-from-at d 0 n i l ∙ ap g (omega arith)
+
+pub bytes-front : (s : List ℕ) (n : ℕ) → n ≤ length s → map (byteAt s) (below n) ≡ take n s
+bytes-front s n h =
     let size = length-take-le n s h in
     rw size at (table-is (byteAt s) 0 (take n s) (λ i l. sym (getD-take n s i 0 (omega arith))))
 
-pub whole-is : (s : List ℕ) (n : ℕ) → length s ≡ n → map (byteAt s) (below n) ≡ s
-whole-is s n h = front-is s n (omega arith) ∙ take-all n s (omega arith)
+pub bytes-whole : (s : List ℕ) (n : ℕ) → length s ≡ n → map (byteAt s) (below n) ≡ s
+bytes-whole s n h = bytes-front s n (omega arith) ∙ take-all n s (omega arith)
 
 -- ---- bytes
 pub joined : (n : ℕ) → n % 256 + 256 * (n / 256) ≡ n

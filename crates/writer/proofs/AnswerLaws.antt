@@ -22,7 +22,7 @@ use Rattle.writer.specs.Answers.{Placement, answerHead, placeBytes, answ
 use Rattle.writer.specs.Answers.{answerWriterChecks, answerRefusal, AnswerPasses, ThreeEach}
 use Rattle.writer.specs.Laws.{AllBytes, TwoLaws, answerFormat}
 use Rattle.writer.proofs.Sheets.{answer-length, answer-part, apprentice-back, places-back}
-use Rattle.writer.proofs.Again.{none-at, every-at, table-length, table-is, front-is, whole-is}
+use Rattle.writer.proofs.Again.{none-at, every-at, table-length, table-is, bytes-front, bytes-whole}
 use Rattle.writer.proofs.Again.{two-again, mark-again, sheet-again, two-laws}
 
 -- ---- a place
@@ -41,7 +41,7 @@ said-is a i h =
 -- three numbers, read from the bytes that are written for them
 fields-given : (p : List ℕ) → length p ≡ 3 → placeFields (placeBytes p) ≡ p
 unfolding placeBytes
-fields-given p l = whole-is p 3 l
+fields-given p l = bytes-whole p 3 l
 
 -- four bytes in range, written from the numbers that they say
 fields-again : (p : List ℕ) → breaksPlace p ≡ false → placeBytes (placeFields p) ≡ p
@@ -50,7 +50,7 @@ fields-again p h =
     let (size, range) = or-parts (not (eqb (length p) 4)) (outOfRange p) h in
     let fields = ltb 31 (byteAt p 0) || ltb 31 (byteAt p 1) || ltb 15 (byteAt p 2) in
     let last = or-parts fields (not (eqb (byteAt p 3) 0)) range .1 in
-    rw (eqb-true (byteAt p 3) 0 (not-false _ last)) at (whole-is p 4 (eqb-true (length p) 4 (not-false _ size)))
+    rw (eqb-true (byteAt p 3) 0 (not-false _ last)) at (bytes-whole p 4 (eqb-true (length p) 4 (not-false _ size)))
 
 -- ---- what 20 to 25 without 24 leave
 opened : (a : List ℕ) → openingNumber a ≡ 0
@@ -108,7 +108,7 @@ module _ (a : List ℕ) (b : AllBytes a) where
       let b6 = b 6 in
       let low : apprentice a % 65536 ≡ u16At a 5 = omega arith in
       let high : apprentice a / 65536 ≡ u16At a 7 = omega arith in
-      rw (low, high) (mark-again 65 a mark version (two-again a 5 b (two-again a 7 b (two-again a 9 b refl))) ∙ front-is a 11 long)
+      rw (low, high) (mark-again 65 a mark version (two-again a 5 b (two-again a 7 b (two-again a 9 b refl))) ∙ bytes-front a 11 long)
 
   part-again : anyb (outOfRangeAt a) (below (placeCount a)) ≡ false → (i : ℕ) → i < placeCount a → placeBytes (said a i) ≡ placePart a i
   part-again placed i l =

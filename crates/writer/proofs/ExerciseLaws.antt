@@ -22,7 +22,7 @@ use Rattle.writer.specs.Exercises.{Netlist, exerciseHead, recordBytes, e
 use Rattle.writer.specs.Exercises.{recordChecks, recordsNumber, exerciseWriterChecks, exerciseRefusal, ExercisePasses, TwelveEach}
 use Rattle.writer.specs.Laws.{AllBytes, TwoLaws, exerciseFormat, AtMost512}
 use Rattle.writer.proofs.Sheets.{exercise-length, exercise-part, nets-back, cells-back}
-use Rattle.writer.proofs.Again.{none-at, every-at, table-length, table-is, front-is, whole-is}
+use Rattle.writer.proofs.Again.{none-at, every-at, table-length, table-is, bytes-front, bytes-whole}
 use Rattle.writer.proofs.Again.{joined, part-bytes, two-again, mark-again, sheet-again, two-laws}
 
 -- ---- a record
@@ -41,7 +41,7 @@ said-is e i h =
 -- twelve numbers, read from the bytes that are written for them
 fields-given : (c : List ℕ) → length c ≡ 12 → packed (recordFields (recordBytes c)) ≡ c
 unfolding recordFields recordBytes
-fields-given c l = simp joined (whole-is c 12 l)
+fields-given c l = simp joined (bytes-whole c 12 l)
 
 -- 24 bytes, written from the numbers that they say
 fields-again : (p : List ℕ) → AllBytes p → length p ≡ 24 → recordBytes (packed (recordFields p)) ≡ p
@@ -49,7 +49,7 @@ unfolding recordFields recordBytes
 fields-again p b l =
     two-again p 0 b (two-again p 2 b (two-again p 4 b (two-again p 6 b (two-again p 8 b (two-again p 10 b
     (two-again p 12 b (two-again p 14 b (two-again p 16 b (two-again p 18 b (two-again p 20 b (two-again p 22 b refl)))))))))))
-    ∙ whole-is p 24 l
+    ∙ bytes-whole p 24 l
 
 -- ---- what 10 to 14 leave
 headed : (e : List ℕ) → exerciseNumber e ≡ 0
@@ -60,7 +60,7 @@ headed e h =
     let (nets, cells) = or-parts (ltb 1024 (netCount e)) (ltb 512 (cellCount e)) limit in
     (mark, version, ltb-false _ _ nets, ltb-false _ _ cells, eqb-true _ _ (not-false _ size))
 
--- the statement of AtMost512
+-- 13 and 24 leave at most 512 places
 pub at-most-512 : AtMost512
 unfolding AtMost512
 at-most-512 e a h same = rw same (headed e h .3)
@@ -105,7 +105,7 @@ module _ (x : Netlist) where
 module _ (e : List ℕ) (b : AllBytes e) where
   head-again : wrongMark 69 e ≡ false → wrongVersion e ≡ false → 9 ≤ length e → exerciseHead (netCount e) (cellCount e) ≡ take 9 e
   unfolding exerciseHead
-  head-again mark version long = mark-again 69 e mark version (two-again e 5 b (two-again e 7 b refl)) ∙ front-is e 9 long
+  head-again mark version long = mark-again 69 e mark version (two-again e 5 b (two-again e 7 b refl)) ∙ bytes-front e 9 long
 
   part-again : anyb (malformed e) (cellNumbers e) ≡ false → length e ≡ recordStart (cellCount e)
       → (i : ℕ) → i < cellCount e → recordBytes (said e i) ≡ recordPart e i

@@ -31,6 +31,7 @@ module _ (e : List ℕ) (nets cells m : ℕ) (fn : nets ≡ netCount e) (fc : ce
   unfolding malformed cell malformedAt
   found = any-below (malformed e) (cellCount e) ∙ rw (fm, fn, fc)
 
+  -- 15 is found by the first malformed record
   pub says-15 : m < cells → 15 ≡ recordsNumber e
   unfolding recordsNumber
   says-15 h = rw (found, lt-ltb m cells h)
@@ -44,6 +45,7 @@ module _ (e : List ℕ) (nets cells m : ℕ) (fn : nets ≡ netCount e) (fc : ce
         any-below (doubleDriver e) (cellCount e)
         ∙ rw (fd, fc, double-same (knownAt e) (cell e) (replicate 1024 0) 0 (cellCount e) (λ j l u. known-cells e passes-15 j (omega arith)), double-is e (cellCount e) few)
 
+    -- 16 is found by the first double driver
     pub says-16 : d < cells → 16 ≡ recordsNumber e
     unfolding recordsNumber
     says-16 l = rw (passes-15, driven, lt-ltb d cells l)

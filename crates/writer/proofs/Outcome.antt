@@ -41,9 +41,11 @@ module _ (room needs total : ℕ) (short : Bool) (is : short ≡ ltb room needs)
   abbrev first-two : ℕ
   first-two = cond (ltb room needs) 2 (cond (ltb 512 total) 13 later)
 
+  -- 2, the buffer is too short
   pub says-2 : short ≡ true → 2 ≡ first-two
   says-2 h = stops-by (ltb room needs) short 2 _ is h refl
 
+  -- 13, there are too many records
   pub says-13 : short ≡ false → 512 < total → 13 ≡ first-two
   says-13 h over = passes-by (ltb room needs) short 2 _ is h (stops (ltb 512 total) 13 later (lt-ltb 512 total over) refl)
 
@@ -95,6 +97,7 @@ module _ (x : Placement) where
   unfolding outOfRangeAt placedAt
   out-at i h = ap (λ (p : List ℕ). isOutOfRange (placedOf p)) (answer-part x i h) ∙ out-of (getD (x .places) i [])
 
+  -- 26 of the sheet is 26 of the places' numbers
   pub any-out : anyb (outOfRangeAt (answerSheet x)) (below (length (x .places))) ≡ anyb offBoard (x .places)
   any-out =
       any-below (outOfRangeAt (answerSheet x)) (length (x .places))

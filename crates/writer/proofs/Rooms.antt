@@ -12,7 +12,7 @@ use Rattle.sheet.proofs.Laws.{by-test}
 pub short-head : (room head more : ℕ) → room < head → true ≡ ltb room (head + more)
 short-head room head more h = sym (lt-ltb room (head + more) (omega arith))
 
--- what is left after the head has room for fewer records than there are exactly where the buffer is too short
+-- 2: what is left after the head has room for fewer records than there are exactly where the buffer is too short
 pub short-records : (room head each total : ℕ) → 0 < each → head ≤ room → ltb ((room - head) / each) total ≡ ltb room (head + each * total)
 short-records room head each total e h =
     let fewer = div-lt-iff-lt-mul {k = each} {x = room - head} {y = total} e in
