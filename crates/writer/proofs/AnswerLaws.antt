@@ -20,8 +20,9 @@ use Rattle.answer.proofs.Numbers.{placed-says}
 use Rattle.placing.specs.Places.{outOfRangeAt}
 use Rattle.writer.specs.Answers.{Placement, answerHead, placeBytes, answerSheet, placementOf}
 use Rattle.writer.specs.Answers.{answerWriterChecks, answerRefusal, AnswerPasses, ThreeEach}
-use Rattle.writer.specs.Laws.{AllBytes, TwoLaws, answerFormat}
+use Rattle.writer.specs.Laws.{AllBytes, TwoLaws, answerFormat, BesideExercise}
 use Rattle.writer.proofs.Sheets.{answer-length, answer-part, apprentice-back, places-back}
+use Rattle.writer.proofs.ExerciseLaws.{few-cells}
 use Rattle.writer.proofs.Again.{none-at, every-at, table-length, table-is, bytes-front, bytes-whole}
 use Rattle.writer.proofs.Again.{two-again, mark-again, sheet-again, two-laws}
 
@@ -136,3 +137,9 @@ module _ (a : List ℕ) (b : AllBytes a) where
 
 pub answer-laws : TwoLaws answerFormat
 answer-laws = two-laws answerFormat answer-writes answer-again
+
+-- beside its exercise an answer has at most 512 places, by 13 and 24
+pub beside-exercise : BesideExercise
+unfolding BesideExercise AnswerPasses
+beside-exercise e a lent exercise opens same placed bytes room =
+    answer-laws .written-again a lent bytes (opens, placed, rw same (few-cells e exercise)) room

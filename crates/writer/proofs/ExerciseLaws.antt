@@ -16,11 +16,10 @@ use Rattle.sheet.proofs.Laws.{by-test, or-parts}
 use Rattle.exercise.specs.Exercise.{netCount, cellCount, recordStart, recordPart, overLimit, wrongExerciseLength, exerciseChecks, exerciseNumber}
 use Rattle.exercise.specs.Record.{breaksLayout, recordFields, recordAt, recordValues}
 use Rattle.exercise.proofs.Numbers.{record-number, record-values}
-use Rattle.answer.specs.Answer.{placeCount}
 use Rattle.tables.specs.Records.{cell, cellNumbers, malformed}
 use Rattle.writer.specs.Exercises.{Netlist, exerciseHead, recordBytes, exerciseSheet, packed, netlistOf}
 use Rattle.writer.specs.Exercises.{recordChecks, recordsNumber, exerciseWriterChecks, exerciseRefusal, ExercisePasses, TwelveEach}
-use Rattle.writer.specs.Laws.{AllBytes, TwoLaws, exerciseFormat, AtMost512}
+use Rattle.writer.specs.Laws.{AllBytes, TwoLaws, exerciseFormat}
 use Rattle.writer.proofs.Sheets.{exercise-length, exercise-part, nets-back, cells-back}
 use Rattle.writer.proofs.Again.{none-at, every-at, table-length, table-is, bytes-front, bytes-whole}
 use Rattle.writer.proofs.Again.{joined, part-bytes, two-again, mark-again, sheet-again, two-laws}
@@ -60,10 +59,8 @@ headed e h =
     let (nets, cells) = or-parts (ltb 1024 (netCount e)) (ltb 512 (cellCount e)) limit in
     (mark, version, ltb-false _ _ nets, ltb-false _ _ cells, eqb-true _ _ (not-false _ size))
 
--- 13 and 24 leave at most 512 places
-pub at-most-512 : AtMost512
-unfolding AtMost512
-at-most-512 e a h same = rw same (headed e h .3)
+pub few-cells : (e : List ℕ) → exerciseNumber e ≡ 0 → cellCount e ≤ 512
+few-cells e h = headed e h .3
 
 -- ---- the first law
 module _ (x : Netlist) where

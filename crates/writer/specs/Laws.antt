@@ -2,10 +2,13 @@
 -- identical bytes." They speak of a format, so that every writer has the same two. Assumes nothing.
 use Prim.Native.Nat.{ℕ, _≤_, _<_}
 use mathlib.Core.Path.{_≡_}
+use mathlib.Core.Bool.{false}
 use mathlib.Core.List.{List, _++_}
 use lib.ListN.{length, getD, take, drop}
+use Rattle.sheet.specs.Lists.{anyb, below}
 use Rattle.exercise.specs.Exercise.{cellCount, exerciseNumber}
-use Rattle.answer.specs.Answer.{placeCount}
+use Rattle.answer.specs.Answer.{placeCount, openingNumber}
+use Rattle.placing.specs.Places.{outOfRangeAt}
 use Rattle.writer.specs.Writing.{told, bufferAfter}
 use Rattle.writer.specs.Exercises.{Netlist, exerciseSheet, exerciseRefusal, netlistOf, ExercisePasses, TwelveEach}
 use Rattle.writer.specs.Answers.{Placement, answerSheet, answerRefusal, placementOf, AnswerPasses, ThreeEach}
@@ -56,6 +59,8 @@ module _ {A : Type 0} (F : Format A) where
     pub reads-back : (x : A) (lent : List ℕ) → F .Given x → F .refusal x (length lent) ≡ 0 → ReadsBack x lent
     pub written-again : (s lent : List ℕ) → AllBytes s → F .Passes s → length s ≤ length lent → WrittenAgain s lent
 
--- an answer that passes 20 to 25 beside its exercise has at most 512 places
-unfoldable pub AtMost512 : Type 0
-AtMost512 = (e a : List ℕ) → exerciseNumber e ≡ 0 → placeCount a ≡ cellCount e → placeCount a ≤ 512
+-- "20 to 26 beside its exercise": an exercise that passes 10 to 14, and an answer with as many cells (24) that passes the others, is written again
+unfoldable pub BesideExercise : Type 0
+BesideExercise =
+    (e a lent : List ℕ) → exerciseNumber e ≡ 0 → openingNumber a ≡ 0 → placeCount a ≡ cellCount e
+    → anyb (outOfRangeAt a) (below (placeCount a)) ≡ false → AllBytes a → length a ≤ length lent → WrittenAgain answerFormat a lent
