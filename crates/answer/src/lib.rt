@@ -8,9 +8,9 @@ ghost use Rattle.sheet.specs.Bytes.{u32At, beginsAt};
 ghost use Rattle.answer.specs.Answer.{apprentice, placeCount, wrongAnswerLength, answerNumber, openingNumber, placedOf, placedAt, placedNumber, placedValues, breaksPlace, placeFields, placeStart, placePart};
 
 // The header: where its numbers stand, and its size.
-const APPRENTICE_AT: usize = 5;
+pub const APPRENTICE_AT: usize = 5;
 
-const PLACES_AT: usize = 9;
+pub const PLACES_AT: usize = 9;
 
 pub const ANSWER_HEADER: usize = 11;
 

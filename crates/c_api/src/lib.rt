@@ -6,7 +6,7 @@ use list_check::CellRecord;
 use reader::AnswerStep;
 use reader::ExerciseStep;
 use writer::Cell;
-use writer::Spot;
+use writer::CellPlace;
 ghost use mathlib.Core.Path.{_≡_};
 ghost use mathlib.Core.Bool.{cond};
 ghost use Prim.Native.Nat.{_+_, _*_};
@@ -328,7 +328,7 @@ pub extern "C" fn nurimkkot_write_exercise(
 #[no_mangle]
 pub extern "C" fn nurimkkot_write_answer(
     apprentice: u32,
-    places: &[Spot],
+    places: &[CellPlace],
     sheet: &mut [u8],
     size: &mut usize,
 ) -> u8

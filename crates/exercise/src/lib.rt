@@ -17,9 +17,9 @@ pub const MAX_NETS: u16 = 1024;
 pub const MAX_CELLS: u16 = 512;
 
 // The header: where its numbers stand, and its size.
-const NETS_AT: usize = 5;
+pub const NETS_AT: usize = 5;
 
-const CELLS_AT: usize = 7;
+pub const CELLS_AT: usize = 7;
 
 pub const EXERCISE_HEADER: usize = 9;
 

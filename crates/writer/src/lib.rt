@@ -1,12 +1,17 @@
 use answer::ANSWER_HEADER;
+use answer::APPRENTICE_AT;
 use answer::MAX_COLUMN;
 use answer::MAX_LE;
 use answer::MAX_ROW;
 use answer::PLACE_SIZE;
+use answer::PLACES_AT;
+use exercise::CELLS_AT;
 use exercise::EXERCISE_HEADER;
 use exercise::MAX_CELLS;
 use exercise::MAX_NETS;
+use exercise::NETS_AT;
 use exercise::RECORD_SIZE;
+use sheet::VERSION_AT;
 ghost use mathlib.Core.Path.{_≡_};
 ghost use mathlib.Core.List.{[], _∷_};
 ghost use Prim.Native.Nat.{_+_, _*_, _≤_, _<_, _^_};
@@ -30,13 +35,13 @@ pub type Cell = [u16; CELL_NUMBERS];
 // A place as three numbers: x, y and LE.
 pub const PLACE_NUMBERS: usize = 3;
 
-pub type Spot = [u16; PLACE_NUMBERS];
+pub type CellPlace = [u16; PLACE_NUMBERS];
 
 // The most records of either sort.
 const MAX_RECORDS: usize = MAX_CELLS as usize;
 
-// The longest exercise: 512 cells.
-const LONGEST_EXERCISE: usize = 12297;
+// The length of the longest exercise.
+const LONGEST_EXERCISE: usize = EXERCISE_HEADER + RECORD_SIZE * MAX_RECORDS;
 
 // What a writer answers: a refusal's number and length 0, or number 0 and the length of the sheet.
 pub struct Written {
@@ -72,7 +77,7 @@ fn put_mark(to: &mut [u8], third: u8)
     to[0] = b'L';
     to[1] = b'X';
     to[2] = third;
-    put_u16(to, 3, 1);
+    put_u16(to, VERSION_AT, 1);
 }
 
 // Stores a cell's record.
@@ -105,8 +110,8 @@ fn put_exercise_head(to: &mut [u8], nets: u16, total: u16)
     ensures { λ _. ⌜ now (to .exit) ≡ sets (now (to .entry)) 0 (exerciseHead nets total) ⌝ }
 {
     put_mark(to, b'E');
-    put_u16(to, 5, nets);
-    put_u16(to, 7, total);
+    put_u16(to, NETS_AT, nets);
+    put_u16(to, CELLS_AT, total);
 }
 
 // Stores an exercise sheet.
@@ -189,7 +194,7 @@ pub fn write_exercise(nets: u16, cells: &[Cell], out: &mut [u8]) -> Written
 }
 
 // Stores a place's record.
-fn put_place(to: &mut [u8], at: usize, place: Spot)
+fn put_place(to: &mut [u8], at: usize, place: CellPlace)
     requires { ⌜ at + 4 ≤ length (now to) ⌝ }
     ensures { λ _. ⌜ now (to .exit) ≡ sets (now (to .entry)) at (cutBytes place) ⌝ }
 {
@@ -200,7 +205,7 @@ fn put_place(to: &mut [u8], at: usize, place: Spot)
 }
 
 // Stores the records of all places.
-fn put_places(to: &mut [u8], places: &[Spot])
+fn put_places(to: &mut [u8], places: &[CellPlace])
     requires { ⌜ placeStart (length (now places)) ≤ length (now to) ⌝ }
     ensures { λ _. ⌜ now (to .exit) ≡ sets (now (to .entry)) 11 (concatMap cutBytes (now (places .entry))) ⌝ }
 {
@@ -217,12 +222,12 @@ fn put_answer_head(to: &mut [u8], apprentice: u32, total: u16)
     ensures { λ _. ⌜ now (to .exit) ≡ sets (now (to .entry)) 0 (answerHead apprentice total) ⌝ }
 {
     put_mark(to, b'A');
-    put_u32(to, 5, apprentice);
-    put_u16(to, 9, total);
+    put_u32(to, APPRENTICE_AT, apprentice);
+    put_u16(to, PLACES_AT, total);
 }
 
 // Stores an answer sheet.
-fn put_answer(to: &mut [u8], apprentice: u32, places: &[Spot])
+fn put_answer(to: &mut [u8], apprentice: u32, places: &[CellPlace])
     requires { ⌜ (placeStart (length (now places)) ≤ length (now to)) × (length (now places) ≤ 512) ⌝ }
     ensures { λ _. ⌜ now (to .exit) ≡ sets (now (to .entry)) 0 (cutSheet (placement apprentice (now (places .entry)))) ⌝ }
 {
@@ -231,7 +236,7 @@ fn put_answer(to: &mut [u8], apprentice: u32, places: &[Spot])
 }
 
 // Whether a place is out of range.
-fn is_off_board(place: Spot) -> bool
+fn is_off_board(place: CellPlace) -> bool
     ensures { λ r. ⌜ r ≡ offBoard place ⌝ }
 {
     let column = (MAX_COLUMN as u16) < place[0];
@@ -241,7 +246,7 @@ fn is_off_board(place: Spot) -> bool
 }
 
 // Whether some place is out of range.
-fn some_off_board(places: &[Spot]) -> bool
+fn some_off_board(places: &[CellPlace]) -> bool
     ensures { λ r. ⌜ r ≡ anyb offBoard (now (places .entry)) ⌝ }
 {
     let mut i: usize = 0;
@@ -255,7 +260,7 @@ fn some_off_board(places: &[Spot]) -> bool
 }
 
 // The number that refuses an answer, or 0.
-fn answer_refusal(apprentice: u32, places: &[Spot], room: usize) -> u8
+fn answer_refusal(apprentice: u32, places: &[CellPlace], room: usize) -> u8
     ensures { λ r. ⌜ r ≡ answerRefusal (placement apprentice (now (places .entry))) room ⌝ }
 {
     if too_short(room, ANSWER_HEADER, PLACE_SIZE, places.len()) {
@@ -274,7 +279,7 @@ fn answer_refusal(apprentice: u32, places: &[Spot], room: usize) -> u8
 }
 
 // Writes the answer sheet of an apprentice's places.
-pub fn write_answer(apprentice: u32, places: &[Spot], out: &mut [u8]) -> Written
+pub fn write_answer(apprentice: u32, places: &[CellPlace], out: &mut [u8]) -> Written
     ensures told { λ r. ⌜ r ≡ told (answerRefusal (placement apprentice (now (places .entry))) (length (now (out .entry)))) (answerSheet (placement apprentice (now (places .entry)))) ⌝ }
     ensures written { λ _. ⌜ now (out .exit) ≡ bufferAfter (answerRefusal (placement apprentice (now (places .entry))) (length (now (out .entry)))) (answerSheet (placement apprentice (now (places .entry)))) (now (out .entry)) ⌝ }
 {
