@@ -5,6 +5,7 @@ use mathlib.Core.Bool.{false, true≢false}
 use mathlib.Core.List.{List, []}
 use borrow.Author.Tests.{lt-leb}
 use Rattle.sheet.specs.Lists.{anyb, below}
+use Rattle.sheet.proofs.Scan.{none-at}
 use Rattle.sheet.proofs.Checks.{all-held}
 use Rattle.exercise.specs.Exercise.{cellCount}
 use Rattle.exercise.specs.Record.{recordValues, isMalformed}
@@ -18,7 +19,7 @@ use Rattle.placing.specs.Places.{isOutOfRange, outOfRangeAt}
 use Rattle.reader.specs.Reader.{stepOf, exerciseStepAt, placeStepOf, answerStepAt}
 use Rattle.writer.specs.Exercises.{packed, recordChecks, recordsNumber, netlistOf, ExercisePasses}
 use Rattle.writer.specs.Answers.{placementOf, AnswerPasses}
-use Rattle.writer.proofs.Again.{none-at, table-length, table-at}
+use Rattle.writer.proofs.Again.{table-length, table-at}
 use Rattle.c_api.specs.Told.{cellTold, cellFields, placeTold, placeFields}
 use Rattle.c_api.specs.Circle.{CellsRead, PlacesRead, Circle}
 

@@ -6,39 +6,32 @@ use mathlib.Core.Bool.{false, cond, not, _&&_, and-assoc}
 use mathlib.Core.List.{List}
 use lib.ListN.{replicate}
 use lib.Dec.{eqb, ltb}
-use borrow.Author.Tests.{ltb-false, eqb-true, eq-eqb}
+use borrow.Author.Tests.{eqb-true, eq-eqb}
 use Rattle.sheet.specs.Lists.{firstFrom}
 use Rattle.sheet.specs.Signal.{isNet, isInverted}
-use Rattle.exercise.specs.Exercise.{netCount, cellCount, overLimit, exerciseChecks, exerciseNumber}
+use Rattle.exercise.specs.Exercise.{netCount, cellCount, exerciseNumber}
+use Rattle.exercise.proofs.Head.{headed}
 use Rattle.exercise.specs.declared.Record.{Record}
 use Rattle.exercise.specs.declared.Record.the-variants.{Combinational, Register, Malformed}
-use Rattle.sheet.proofs.Laws.{by-test, or-parts}
+use Rattle.sheet.proofs.Laws.{by-test}
 use Rattle.tables.specs.Records.{cell, malformed, doubleDriver}
 use Rattle.netlist.specs.Cells.{cellNumber}
 use Rattle.exercise.specs.passes.Known.{knownAt}
-use Rattle.exercise.proofs.Known.{known-is}
 use Rattle.sheet.specs.Checks.{NONE}
 use Rattle.tables.specs.passes.Tables.{cellFor, readsBelow, readersBelow, driversBelow}
 use Rattle.netlist.specs.passes.Numbers.{numberAt}
+use Rattle.tables.proofs.Found.{known-cells}
 use Rattle.tables.proofs.Same.{reads-same, readers-same, drivers-same}
 use Rattle.tables.proofs.Filled.{reads, readers, drivers}
 use Rattle.netlist.proofs.Carry.{fed-by, number-is}
 use Rattle.placing.specs.Places.{follows}
 use Rattle.placing.specs.passes.Detached.{detachedBy, detachedAt}
 use Rattle.judge.specs.declared.Finding.{Finding}
-use Rattle.judge.specs.Judge.{finding, legal, ofSheet, standsApart, carryNotNext, exerciseGroup, cellGroup, placeGroup, firstBroken}
-use Rattle.judge.specs.Numbers.{numbersTo51}
+use Rattle.judge.specs.Judge.{finding, legal, standsApart, carryNotNext, exerciseGroup, cellGroup, placeGroup, firstBroken}
 use Rattle.judge.specs.passes.Stages.{numbered, atCell, placedBy}
 use Rattle.sheet.proofs.First.{first-below, none-below}
-use Rattle.judge.proofs.Broken.{held-number}
-use Rattle.judge.proofs.Numbers.{known-numbered, exercise-known}
 use Rattle.judge.proofs.Numbering.{numbered-same}
 use Rattle.judge.proofs.Groups.{then, exercise-finds, cells-finds, places-finds}
-
--- where 15 holds, the records are known
-pub known-cells : (e : List ℕ) → ltb (firstFrom (malformed e) 0 (cellCount e)) (cellCount e) ≡ false → (i : ℕ) → i < cellCount e → knownAt e i ≡ cell e i
-unfolding malformed cell
-known-cells e h i b = known-is (netCount e) e i (none-below (malformed e) (cellCount e) h i b)
 
 -- what 13, 15 and 16 say, as far as the tables need it
 pub record Sound (e : List ℕ) : Type 0 where
@@ -96,11 +89,7 @@ run-passed n i k g d h = by-test (ltb i k) (λ t. absurd (d (rw t at h))) (λ t.
 
 -- 13 holds
 pub limits : (e : List ℕ) → exerciseNumber e ≡ 0 → (netCount e ≤ 1024) × (cellCount e ≤ 512)
-unfolding exerciseNumber overLimit
-limits e h =
-    let numbered = known-numbered numbersTo51 refl (ofSheet (exerciseChecks e)) (exercise-known e) in
-    let p = or-parts (ltb 1024 (netCount e)) (ltb 512 (cellCount e)) (held-number 13 (exerciseChecks e) numbered h) in
-    (ltb-false 1024 (netCount e) (p .0), ltb-false 512 (cellCount e) (p .1))
+limits e h = let (_, _, nets, cells, _) = headed e h in (nets, cells)
 
 pub number-passed : (e : List ℕ) → firstBroken (exerciseGroup e) .number ≡ 0 → exerciseNumber e ≡ 0
 number-passed e h = then-first (finding (exerciseNumber e) NONE NONE) _ (rw exercise-finds at h)

@@ -5,7 +5,7 @@ use native.Mathlib.Omega.{arith}
 use mathlib.Core.Path.{_≡_, refl, sym, ap, _∙_}
 use mathlib.Core.Bool.{Bool, true, false, cond, not}
 use mathlib.Core.List.{List, [], _∷_, _++_}
-use lib.ListN.{length, getD, drop, replicate, length-replicate, getD-replicate}
+use lib.ListN.{length, getD, replicate, length-replicate, getD-replicate}
 use lib.Dec.{eqb, ltb}
 use borrow.Author.Tests.{eq-eqb, ne-eqb, eqb-true, eqb-false, not-true, lt-ltb, le-ltb}
 use Rattle.sheet.proofs.Scan.{Unmet, unmet-starts, unmet-goes, unmet-stops, unmet-ends}
@@ -16,12 +16,11 @@ use Rattle.answer.specs.Answer.{answerNumber, placeCount, wrongAnswerLength, pl
 use Rattle.route.specs.Table.{Table, houseBoard}
 use Rattle.sheet.proofs.Laws.{by-test}
 use Rattle.lab_rules.specs.passes.Counts.{AllFit}
-use Rattle.tables.specs.Records.{cell, malformed, doubleDriver}
+use Rattle.tables.specs.Records.{cell, malformed}
 use Rattle.netlist.specs.Cells.{cellNumber}
 use Rattle.sheet.specs.Checks.{NONE}
 use Rattle.tables.specs.passes.Tables.{malformedAt, doubleFrom, readsBelow, readersBelow, driversBelow}
 use Rattle.netlist.specs.passes.Numbers.{numberBy, numberAt, brokenAt}
-use Rattle.tables.proofs.Double.{double-is}
 use Rattle.placing.specs.Places.{labAt, outOfRangeAt, placeTaken}
 use Rattle.placing.specs.passes.Detached.{detachedAt}
 use Rattle.lab_pass.specs.Members.{members}
@@ -48,9 +47,9 @@ use Rattle.judge.proofs.CulpritInside.{culprit-inside}
 use Rattle.judge.proofs.FitCells.{lab-fit}
 use Rattle.judge.proofs.LabsFound.{linked, labs-are, routes-are}
 use Rattle.sheet.proofs.First.{first-most, some-below}
-use Rattle.tables.proofs.Same.{double-same}
+use Rattle.tables.proofs.Found.{malformed-first, double-first}
 use Rattle.judge.proofs.Numbering.{numbered-none}
-use Rattle.judge.proofs.Sound.{Sound, known-cells, sound-of, limits, then-first, then-second, cells-are, places-are}
+use Rattle.judge.proofs.Sound.{Sound, sound-of, limits, then-first, then-second, cells-are, places-are}
 
 -- ---- a finding, and the next where it is nothing
 then-stays : (f g : Finding) {r : Finding} → (f .number ≡ 0 → ⊥) → r ≡ f → r ≡ then f g
@@ -67,8 +66,7 @@ module _ (e : List ℕ) (number : ℕ) (head : number ≡ exerciseNumber e) wher
 
   module _ (nets cells i : ℕ) (none : number ≡ 0) (n : nets ≡ netCount e) (c : cells ≡ cellCount e) (at : i ≡ firstFrom (malformedAt nets e) 0 cells) where
     first : i ≡ firstFrom (malformed e) 0 (cellCount e)
-    unfolding malformedAt malformed cell
-    first = at ∙ rw (n, c)
+    first = malformed-first e nets cells i n c at
 
     -- 15
     pub exercise-malformed : {r : Finding} → i < cells → r ≡ cond (ltb i cells) (finding 15 i NONE) legal → r ≡ firstBroken (exerciseGroup e)
@@ -78,12 +76,9 @@ module _ (e : List ℕ) (number : ℕ) (head : number ≡ exerciseNumber e) wher
 
     pub exercise-driven : (d : ℕ) {r : Finding} → cells ≤ i → d ≡ doubleFrom (knownAt e) (replicate 1024 0) 0 cells → r ≡ cond (ltb d cells) (finding 16 d NONE) legal → r ≡ firstBroken (exerciseGroup e)
     exercise-driven d h b a =
-        let l = limits e (sym head ∙ none) in
-        let known = known-cells e (ap (λ (k : ℕ). ltb k (cellCount e)) (sym first) ∙ le-ltb i (cellCount e) (omega arith)) in
-        let s : d ≡ firstFrom (doubleDriver e) 0 cells =
-        b ∙ double-same (knownAt e) (cell e) (replicate 1024 0) 0 cells (λ j _ q. known j (omega arith)) ∙ double-is e cells (l .0) in
+        let s = double-first e nets cells i n c at (limits e (sym head ∙ none) .0) h d b in
         rw exercise-finds (then-goes (finding (exerciseNumber e) NONE NONE) _ (sym head ∙ none)
-        (rw (← first, ← c) (rw (le-ltb i cells h, ← s) a)))
+        (rw (← first, ← s, ← c) (rw (le-ltb i cells h) a)))
 
 pub ruleset exercise-steps = (exercise-refused, exercise-malformed, exercise-driven)
 

@@ -1,11 +1,11 @@
 -- How texts are written one after the other, and how a loop writes a text piece by piece. Assumes nothing.
-use Prim.Native.Nat.{ℕ, suc, _+_, _≤_, _<_}
+use Prim.Native.Nat.{ℕ, _+_, _≤_, _<_}
 use mathlib.Core.Path.{_≡_, refl, sym, ap, _∙_}
 use mathlib.Core.List.{List, [], _∷_, _++_}
 use native.Mathlib.Omega.{arith}
 use native.Mathlib.Numerals.{add-one}
 use lib.ListN.{length, set, getD, take, drop, length-append, drop-of-length-le}
-use lib.Seq.{set-out, drop-cons, sets, length-sets, sets-eq, take-append-seam}
+use lib.Seq.{set-out, drop-cons, length-sets, sets-eq, take-append-seam}
 use Rattle.sheet.proofs.Lists.{sets-append}
 use Rattle.listing.specs.Text.{overwrite}
 use Rattle.listing.specs.passes.Writes.{Fits, Writes}

@@ -4,3 +4,4 @@ pub mod Stores
 pub mod Double
 pub mod Filled
 pub mod Same
+pub mod Found

@@ -2,7 +2,7 @@
 -- the laws themselves from what is proved of a format. Assumes nothing.
 use Prim.Native.Nat.{ℕ, zero, suc, _+_, _*_, _/_, _%_, _≤_, _<_}
 use mathlib.Core.Path.{_≡_, refl, sym, ap, _∙_}
-use mathlib.Core.Bool.{Bool, false, _&&_}
+use mathlib.Core.Bool.{false, _&&_}
 use mathlib.Core.List.{List, [], _∷_, _++_, map}
 use native.Mathlib.Nat.{mul-zero, mul-suc, add-comm}
 use native.Mathlib.Omega.{arith}
@@ -10,17 +10,11 @@ use lib.ListN.{length, getD, take, drop, length-drop, length-map, take-append-dr
 use lib.Seq.{length-take-le, take-all, take-add, drop-drop, getD-take, getD-drop, take-append-seam, drop-append-seam}
 use lib.Dec.{eqb}
 use borrow.Author.Tests.{eqb-true, not-false}
-use Rattle.sheet.specs.Lists.{concatMap, Every, anyb, from, below}
+use Rattle.sheet.specs.Lists.{concatMap, Every, from, below}
 use Rattle.sheet.specs.Bytes.{byteAt, u16At, u16Bytes}
 use Rattle.sheet.specs.Header.{wrongMark, wrongVersion}
 use Rattle.sheet.proofs.Laws.{and-parts}
-use Rattle.sheet.proofs.First.{none-below}
-use Rattle.sheet.proofs.Scan.{any-below}
 use Rattle.writer.specs.Laws.{Format, AllBytes, TwoLaws}
-
--- ---- tests
-pub none-at : (f : ℕ → Bool) (n : ℕ) → anyb f (below n) ≡ false → (i : ℕ) → i < n → f i ≡ false
-none-at f n h = none-below f n (sym (any-below f n) ∙ h)
 
 -- ---- lists
 pub every-at : {A : Type 0} (P : A → Type 0) (d : A) (xs : List A) → Every P xs → (i : ℕ) → i < length xs → P (getD xs i d)

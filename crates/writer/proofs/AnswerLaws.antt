@@ -12,8 +12,10 @@ use Rattle.sheet.specs.Lists.{anyb, below}
 use Rattle.sheet.specs.Bytes.{byteAt, u16At}
 use Rattle.sheet.specs.Checks.{check}
 use Rattle.sheet.specs.Header.{wrongMark, wrongVersion}
+use Rattle.sheet.proofs.Scan.{none-at}
 use Rattle.sheet.proofs.Checks.{none-broken, all-held}
 use Rattle.sheet.proofs.Laws.{by-test, or-parts}
+use Rattle.exercise.proofs.Head.{headed}
 use Rattle.answer.specs.Answer.{apprentice, placeCount, placeStart, placePart, answerChecks, wrongAnswerLength, answerNumber, openingNumber}
 use Rattle.answer.specs.Answer.{outOfRange, breaksPlace, placeFields, placedOf, placedAt, placedValues}
 use Rattle.answer.proofs.Numbers.{placed-says}
@@ -22,8 +24,7 @@ use Rattle.writer.specs.Answers.{Placement, answerHead, placeBytes, answ
 use Rattle.writer.specs.Answers.{answerWriterChecks, answerRefusal, AnswerPasses, ThreeEach}
 use Rattle.writer.specs.Laws.{AllBytes, TwoLaws, answerFormat, BesideExercise}
 use Rattle.writer.proofs.Sheets.{answer-length, answer-part, apprentice-back, places-back}
-use Rattle.writer.proofs.ExerciseLaws.{few-cells}
-use Rattle.writer.proofs.Again.{none-at, every-at, table-length, table-is, bytes-front, bytes-whole}
+use Rattle.writer.proofs.Again.{every-at, table-length, table-is, bytes-front, bytes-whole}
 use Rattle.writer.proofs.Again.{two-again, mark-again, sheet-again, two-laws}
 
 -- ---- a place
@@ -142,4 +143,4 @@ answer-laws = two-laws answerFormat answer-writes answer-again
 pub beside-exercise : BesideExercise
 unfolding BesideExercise AnswerPasses
 beside-exercise e a lent exercise opens same placed bytes room =
-    answer-laws .written-again a lent bytes (opens, placed, rw same (few-cells e exercise)) room
+    answer-laws .written-again a lent bytes (opens, placed, rw same (headed e exercise .3)) room

@@ -7,21 +7,22 @@ use mathlib.Core.List.{List, []}
 use native.Mathlib.Omega.{arith}
 use lib.ListN.{length, getD, take, drop, length-drop}
 use lib.Seq.{length-take-le}
-use lib.Dec.{ltb}
-use borrow.Author.Tests.{eq-eqb, le-ltb, eqb-true, ltb-false, not-false}
+use borrow.Author.Tests.{eq-eqb, le-ltb, ltb-false}
 use Rattle.sheet.specs.Lists.{anyb}
 use Rattle.sheet.specs.Header.{wrongMark, wrongVersion}
+use Rattle.sheet.proofs.Scan.{none-at}
 use Rattle.sheet.proofs.Checks.{none-broken, all-held}
-use Rattle.sheet.proofs.Laws.{by-test, or-parts}
+use Rattle.sheet.proofs.Laws.{by-test}
 use Rattle.exercise.specs.Exercise.{netCount, cellCount, recordStart, recordPart, overLimit, wrongExerciseLength, exerciseChecks, exerciseNumber}
 use Rattle.exercise.specs.Record.{breaksLayout, recordFields, recordAt, recordValues}
+use Rattle.exercise.proofs.Head.{headed}
 use Rattle.exercise.proofs.Numbers.{record-number, record-values}
 use Rattle.tables.specs.Records.{cell, cellNumbers, malformed}
 use Rattle.writer.specs.Exercises.{Netlist, exerciseHead, recordBytes, exerciseSheet, packed, netlistOf}
 use Rattle.writer.specs.Exercises.{recordChecks, recordsNumber, exerciseWriterChecks, exerciseRefusal, ExercisePasses, TwelveEach}
 use Rattle.writer.specs.Laws.{AllBytes, TwoLaws, exerciseFormat}
 use Rattle.writer.proofs.Sheets.{exercise-length, exercise-part, nets-back, cells-back}
-use Rattle.writer.proofs.Again.{none-at, every-at, table-length, table-is, bytes-front, bytes-whole}
+use Rattle.writer.proofs.Again.{every-at, table-length, table-is, bytes-front, bytes-whole}
 use Rattle.writer.proofs.Again.{joined, part-bytes, two-again, mark-again, sheet-again, two-laws}
 
 -- ---- a record
@@ -49,18 +50,6 @@ fields-again p b l =
     two-again p 0 b (two-again p 2 b (two-again p 4 b (two-again p 6 b (two-again p 8 b (two-again p 10 b
     (two-again p 12 b (two-again p 14 b (two-again p 16 b (two-again p 18 b (two-again p 20 b (two-again p 22 b refl)))))))))))
     ∙ bytes-whole p 24 l
-
--- ---- what 10 to 14 leave
-headed : (e : List ℕ) → exerciseNumber e ≡ 0
-    → (wrongMark 69 e ≡ false) × (wrongVersion e ≡ false) × (netCount e ≤ 1024) × (cellCount e ≤ 512) × (length e ≡ recordStart (cellCount e))
-unfolding exerciseNumber overLimit wrongExerciseLength
-headed e h =
-    let (_, (mark, (version, (limit, (size, _))))) = all-held (exerciseChecks e) refl h in
-    let (nets, cells) = or-parts (ltb 1024 (netCount e)) (ltb 512 (cellCount e)) limit in
-    (mark, version, ltb-false _ _ nets, ltb-false _ _ cells, eqb-true _ _ (not-false _ size))
-
-pub few-cells : (e : List ℕ) → exerciseNumber e ≡ 0 → cellCount e ≤ 512
-few-cells e h = headed e h .3
 
 -- ---- the first law
 module _ (x : Netlist) where

@@ -1,35 +1,24 @@
 -- 15 and 16 of a sheet, by the judge's own passes. Assumes nothing.
 use Prim.Native.Nat.{ℕ, _≤_, _<_}
-use mathlib.Core.Path.{_≡_, sym, _∙_}
+use mathlib.Core.Path.{_≡_, _∙_}
 use mathlib.Core.Bool.{false}
 use mathlib.Core.List.{List}
-use native.Mathlib.Omega.{arith}
 use lib.ListN.{replicate}
 use lib.Dec.{ltb}
 use borrow.Author.Tests.{lt-ltb, le-ltb}
 use Rattle.sheet.specs.Lists.{anyb, firstFrom}
-use Rattle.sheet.proofs.First.{none-below}
 use Rattle.sheet.proofs.Scan.{any-below}
 use Rattle.exercise.specs.Exercise.{netCount, cellCount}
 use Rattle.exercise.specs.passes.Known.{knownAt}
-use Rattle.exercise.proofs.Known.{known-is}
-use Rattle.tables.specs.Records.{cell, cellNumbers, malformed, doubleDriver}
+use Rattle.tables.specs.Records.{cellNumbers, malformed, doubleDriver}
 use Rattle.tables.specs.passes.Tables.{malformedAt, doubleFrom}
-use Rattle.tables.proofs.Double.{double-is}
-use Rattle.tables.proofs.Same.{double-same}
+use Rattle.tables.proofs.Found.{malformed-first, double-first}
 use Rattle.writer.specs.Exercises.{recordsNumber}
-
--- in a sheet that passes 15, each record is what its kind tells
-known-cells : (e : List ℕ) → anyb (malformed e) (cellNumbers e) ≡ false → (i : ℕ) → i < cellCount e → knownAt e i ≡ cell e i
-unfolding malformed cell
-known-cells e h i l =
-    known-is (netCount e) e i (none-below (malformed e) (cellCount e) (sym (any-below (malformed e) (cellCount e)) ∙ h) i l)
 
 module _ (e : List ℕ) (nets cells m : ℕ) (fn : nets ≡ netCount e) (fc : cells ≡ cellCount e)
     (fm : m ≡ firstFrom (malformedAt nets e) 0 cells) where
   found : anyb (malformed e) (cellNumbers e) ≡ ltb m cells
-  unfolding malformed cell malformedAt
-  found = any-below (malformed e) (cellCount e) ∙ rw (fm, fn, fc)
+  found = any-below (malformed e) (cellCount e) ∙ rw (← malformed-first e nets cells m fn fc fm, fc)
 
   -- 15 is found by the first malformed record
   pub says-15 : m < cells → 15 ≡ recordsNumber e
@@ -41,9 +30,7 @@ module _ (e : List ℕ) (nets cells m : ℕ) (fn : nets ≡ netCount e) (fc : ce
     passes-15 = found ∙ le-ltb m cells h
 
     driven : anyb (doubleDriver e) (cellNumbers e) ≡ ltb d cells
-    driven =
-        any-below (doubleDriver e) (cellCount e)
-        ∙ rw (fd, fc, double-same (knownAt e) (cell e) (replicate 1024 0) 0 (cellCount e) (λ j l u. known-cells e passes-15 j (omega arith)), double-is e (cellCount e) few)
+    driven = any-below (doubleDriver e) (cellCount e) ∙ rw (← double-first e nets cells m fn fc fm few h d fd, fc)
 
     -- 16 is found by the first double driver
     pub says-16 : d < cells → 16 ≡ recordsNumber e

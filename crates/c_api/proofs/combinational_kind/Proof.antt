@@ -1,4 +1,3 @@
-use borrow.Author.Needs.{needs}
 use Rattle.c_api.proofs.combinational_kind.Statement.{statement}
 use Rattle.c_api.proofs.combinational_kind.Tie as tie
 

@@ -2,7 +2,7 @@
 use borrow.Author.Needs.{needs}
 use mathlib.Core.Path.{sym, ap, _∙_}
 use lib.ListN.{length}
-use Rattle.writer.specs.Exercises.{netlist, recordsNumber, exerciseSheet}
+use Rattle.writer.specs.Exercises.{netlist, recordsNumber}
 use Rattle.writer.proofs.Sheets.{exercise-length, nets-back}
 use Rattle.writer.proofs.Outcome.{sheet-in-front}
 use Rattle.writer.proofs.cells_number.Statement.{statement}
