@@ -103,6 +103,22 @@ any-suc p n = ap (anyb p) (below-suc n) ∙ any-append p (below n) (n ∷ []) �
 pub concat-suc : {B : Type 0} (f : ℕ → List B) (n : ℕ) → concatMap f (below (suc n)) ≡ concatMap f (below n) ++ f n
 concat-suc f n = ap (concatMap f) (below-suc n) ∙ concat-append f (below n) (n ∷ []) ∙ rw (append-nil (f n))
 
+-- ---- the numbers below n
+from-length : (b n : ℕ) → length (from b n) ≡ n
+from-length b zero = refl
+from-length b (suc n) = ap suc (from-length (suc b) n)
+
+pub below-length : (n : ℕ) → length (below n) ≡ n
+below-length n = from-length 0 n
+
+from-at : (b n i : ℕ) → i < n → getD (from b n) i 0 ≡ b + i
+from-at b zero i h = absurd (omega arith)
+from-at b (suc n) zero h = omega arith
+from-at b (suc n) (suc i) h = from-at (suc b) n i (omega arith) ∙ omega arith
+
+pub below-at : (n i : ℕ) → i < n → getD (below n) i 0 ≡ i
+below-at n i h = from-at 0 n i h ∙ omega arith
+
 -- a test of all elements, by their numbers
 any-shift : (f : ℕ → Bool) (i k : ℕ) → anyb f (from (suc i) k) ≡ anyb (λ j. f (suc j)) (from i k)
 any-shift f i zero = refl

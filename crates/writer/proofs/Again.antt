@@ -6,7 +6,7 @@ use mathlib.Core.Bool.{false, _&&_}
 use mathlib.Core.List.{List, [], _∷_, _++_, map}
 use native.Mathlib.Nat.{mul-zero, mul-suc, add-comm}
 use native.Mathlib.Omega.{arith}
-use lib.ListN.{length, getD, take, drop, length-drop, length-map, take-append-drop}
+use lib.ListN.{length, getD, take, drop, length-drop, length-map, take-append-drop, List·getD-map}
 use lib.Seq.{length-take-le, take-all, take-add, drop-drop, getD-take, getD-drop, take-append-seam, drop-append-seam}
 use lib.Dec.{eqb}
 use borrow.Author.Tests.{eqb-true, not-false}
@@ -14,6 +14,7 @@ use Rattle.sheet.specs.Lists.{concatMap, Every, from, below}
 use Rattle.sheet.specs.Bytes.{byteAt, u16At, u16Bytes}
 use Rattle.sheet.specs.Header.{wrongMark, wrongVersion}
 use Rattle.sheet.proofs.Laws.{and-parts}
+use Rattle.sheet.proofs.Lists.{getD-within, below-length, below-at}
 use Rattle.writer.specs.Laws.{Format, AllBytes, TwoLaws}
 
 -- ---- lists
@@ -22,13 +23,9 @@ every-at P d [] h i l = absurd (omega arith)
 every-at P d (x ∷ xs) h zero l = h .0
 every-at P d (x ∷ xs) h (suc i) l = every-at P d xs (h .1) i (omega arith)
 
-from-length : (b n : ℕ) → length (from b n) ≡ n
-from-length b zero = refl
-from-length b (suc n) = ap suc (from-length (suc b) n)
-
 module _ {A : Type 0} (g : ℕ → A) where
   pub table-length : (n : ℕ) → length (map g (below n)) ≡ n
-  table-length n = length-map (below n) g ∙ from-length 0 n
+  table-length n = length-map (below n) g ∙ below-length n
 
   -- a table of what a list has at each place is the list
   table-from : (d : A) (b : ℕ) (xs : List A) → ((i : ℕ) → i < length xs → g (b + i) ≡ getD xs i d) → map g (from b (length xs)) ≡ xs
@@ -40,13 +37,9 @@ module _ {A : Type 0} (g : ℕ → A) where
   pub table-is : (d : A) (xs : List A) → ((i : ℕ) → i < length xs → g i ≡ getD xs i d) → map g (below (length xs)) ≡ xs
   table-is d xs h = table-from d 0 xs (λ i l. ap g (omega arith) ∙ h i l)
 
-  table-from-at : (d : A) (b n i : ℕ) → i < n → getD (map g (from b n)) i d ≡ g (b + i)
-  table-from-at d b zero i l = absurd (omega arith)
-  table-from-at d b (suc n) zero l = ap g (omega arith)
-  table-from-at d b (suc n) (suc i) l = table-from-at d (suc b) n i (omega arith) ∙ ap g (omega arith)
-
   pub table-at : (d : A) (n i : ℕ) → i < n → getD (map g (below n)) i d ≡ g i
-  table-at d n i l = table-from-at d 0 n i l ∙ ap g (omega arith)
+  table-at d n i l =
+      getD-within (map g (below n)) i d (g 0) (rw (table-length n) l) ∙ List·getD-map g (below n) i 0 ∙ ap g (below-at n i l)
 
 pub bytes-front : (s : List ℕ) (n : ℕ) → n ≤ length s → map (byteAt s) (below n) ≡ take n s
 bytes-front s n h =

@@ -53,11 +53,10 @@ module _ (room needs total : ℕ) (short : Bool) (is : short ≡ ltb room needs)
   goes-on h few e = passes-by (ltb room needs) short 2 _ is h (passes (ltb 512 total) 13 later (le-ltb 512 total few) e)
 
 -- ---- no check is broken
--- an exercise that is not refused has room, and its counts are within their limits
+-- an exercise that is not refused has room, and few cells
 pub record ExerciseFits (x : Netlist) (room : ℕ) : Type 0 where
   pub roomy : recordStart (length (x .cells)) ≤ room
   pub few : length (x .cells) ≤ 512
-  pub few-nets : x .nets ≤ 1024
 
 pub exercise-fits : (x : Netlist) (room : ℕ) → exerciseRefusal x room ≡ 0 → ExerciseFits x room
 unfolding exerciseRefusal
@@ -66,7 +65,6 @@ exercise-fits x room h =
     record {
       roomy = ltb-false _ _ (k .0);
       few = ltb-false _ _ (k .1 .0);
-      few-nets = ltb-false _ _ (k .1 .1 .0);
     }
 
 -- an answer that is not refused has room and few places, and every place is in range

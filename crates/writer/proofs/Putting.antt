@@ -1,13 +1,13 @@
 -- How bytes are stored one after the other, and how a loop stores parts of one length each. Assumes nothing.
-use Prim.Native.Nat.{ℕ, zero, suc, _+_, _*_, _≤_, _<_}
+use Prim.Native.Nat.{ℕ, suc, _+_, _*_, _≤_, _<_}
 use mathlib.Core.Path.{_≡_, refl, ap, _∙_, sym}
 use mathlib.Core.List.{List, [], _∷_, _++_, append-nil}
-use native.Mathlib.Nat.{le-of-suc-le-suc, zero-add}
+use native.Mathlib.Nat.{zero-add}
 use native.Mathlib.Numerals.{add-one}
 use native.Mathlib.Omega.{arith}
 use lib.ListN.{length, getD, set, take, drop}
 use lib.Seq.{lt-length-set, take-suc, take-all, length-take-le, take-append-seam, sets, length-sets, sets-eq}
-use Rattle.sheet.specs.Lists.{concatMap, from, below}
+use Rattle.sheet.specs.Lists.{concatMap}
 use Rattle.sheet.proofs.Lists.{sets-append, concat-append}
 use Rattle.writer.specs.passes.Put.{cutBytes}
 use Rattle.writer.proofs.Sheets.{parts-length}
@@ -48,15 +48,6 @@ front-stored l a h = sets-eq a l 0 (omega arith) ∙ rw (zero-add (length a))
 pub front-is : (l a to : List ℕ) (k : ℕ) → to ≡ sets l 0 a → length a ≡ k → k ≤ length l → take k to ≡ a
 front-is l a to k s e h =
     ap (λ (m : ℕ). take m to) (sym e) ∙ ap (take (length a)) (s ∙ front-stored l a (rw e h)) ∙ take-append-seam a (drop (length a) l)
-
--- ---- the numbers below n, as a list
-from-at : (b n i : ℕ) → i < n → getD (from b n) i 0 ≡ b + i
-from-at b zero i h = absurd (omega arith)
-from-at b (suc n) zero h = omega arith
-from-at b (suc n) (suc i) h = from-at (suc b) n i (le-of-suc-le-suc h) ∙ omega arith
-
-pub below-at : (n i : ℕ) → i < n → getD (below n) i 0 ≡ i
-below-at n i h = from-at 0 n i h ∙ omega arith
 
 -- ---- parts of one length, stored by a loop
 -- the first i parts are stored
