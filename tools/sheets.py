@@ -358,12 +358,12 @@ ROLES = ("clk", "ena", "aclr", "sclr", "sload")
 
 class Lab:
     """What the cells of one LAB bring, as document 01 counts it for rules 60 to 65. Each of
-    clk, pairs, aclr, sclr and sload has the distinct signals, each with the cells that bring it
-    and the ports that do so by being open."""
+    clk, pairs, aclr and synchronous has the distinct signals or pairs, each with the cells that
+    bring it and the ports that do so by being open."""
 
     def __init__(self):
         self.cells = []
-        self.clk, self.pairs, self.aclr, self.sclr, self.sload = {}, {}, {}, {}, {}
+        self.clk, self.pairs, self.aclr, self.synchronous = {}, {}, {}, {}
         self.read, self.driven, self.needs = set(), set(), set()
 
     def add(self, i, data):
@@ -392,10 +392,9 @@ class Lab:
             bring(self.pairs, (clk, ena), "clk", "ena")
         if aclr != OPEN:
             bring(self.aclr, aclr, "aclr")
-        if port["sclr"] not in (OPEN, GND):
-            bring(self.sclr, port["sclr"], "sclr")
-        if port["sload"] not in (OPEN, GND):
-            bring(self.sload, port["sload"], "sload")
+        synchronous = (port["sload"] or GND, port["sclr"] or GND)
+        if synchronous != (GND, GND):
+            bring(self.synchronous, synchronous, "sload", "sclr")
         for role, name in enumerate(ROLES):
             if port[name] >= 4:
                 self.needs.add((role, port[name]))
@@ -418,8 +417,7 @@ class Lab:
         for name, counted, text in (("clk", self.clk, signal_text),
                                     ("(clk, ena)", self.pairs, pair_text),
                                     ("aclr", self.aclr, signal_text),
-                                    ("sclr", self.sclr, signal_text),
-                                    ("sload", self.sload, signal_text)):
+                                    ("(sload, sclr)", self.synchronous, pair_text)):
             out.append("  %s: %d" % (name, len(counted)))
             out += brought(counted, text)
         for name, items in (("nets in", [str(n) for n in self.nets_in()]),
@@ -925,6 +923,12 @@ def lab_samples():
                     reg(d=net(5), clk=net(0), sload=inv(1), sdata=net(2), q=net(6))),
            answer(1631, (3, 0, 0), (6, 1, 0), (6, 1, 1)),
            Expected(63, ("answer", 15, 4), lab=38, apprentice=1631))
+    sample("v63-sload-vcc", "sload at VCC and an open sload beside one sclr net: VCC is in use",
+           exercise(7, plain,
+                    reg(d=net(4), clk=net(0), sclr=net(1), sload=VCC, sdata=net(2), q=net(5)),
+                    reg(d=net(5), clk=net(0), sclr=net(1), q=net(6))),
+           answer(1632, (3, 0, 0), (31, 1, 0), (31, 1, 1)),
+           Expected(63, ("answer", 15, 4), lab=63, apprentice=1632))
     sample("v64-control-nets", "36 data nets, a datain, a clk and an aclr net: 39",
            exercise(50, comb(a=net(0), o=net(39)),
                     *[comb(a=net(4 * i), b=net(4 * i + 1), c=net(4 * i + 2),
@@ -957,6 +961,31 @@ def lab_samples():
                     reg(d=net(8), clk=net(0), q=net(9))),
            answer(1661, (3, 0, 0), (9, 1, 0), (9, 1, 1), (9, 1, 2)),
            Expected(61, ("answer", 15, 4), lab=41, apprentice=1661))
+
+
+def table4_samples():
+    """Source 000, table 4: its six lines, each "Unconnect or GND" in every combination. Cell 0
+    stands in LAB 67; cells 1 and 2 are LE #1 and LE #2, in a LAB with y 0."""
+    a, b, c = net(1), net(2), net(3)
+    names = {a: "A", b: "B", c: "C", OPEN: "open", GND: "GND"}
+    rows = [(1, 0, a, b), (2, 63, a, c), (3, 63, b, a),
+            (4, 0, OPEN, OPEN), (4, 0, OPEN, GND), (4, 0, GND, OPEN), (4, 0, GND, GND),
+            (5, 63, a, OPEN), (5, 63, a, GND),
+            (6, 63, OPEN, b), (6, 63, GND, b)]
+
+    def register(load, clear, d, q):
+        return reg(d=d, clk=net(0), sclr=clear, sload=load,
+                   sdata=OPEN if load == OPEN else net(4), q=q)
+
+    for x, (line, number, load, clear) in enumerate(rows):
+        constant = [names[s].lower() for s in (load, clear) if s in (OPEN, GND)]
+        sample("-".join(["table4-%d" % line] + constant),
+               "(sload, sclr) of two registers: (A, B), (%s, %s)" % (names[load], names[clear]),
+               exercise(8, comb(a=net(4), o=net(5)), register(a, b, net(5), net(6)),
+                        register(load, clear, net(6), net(7))),
+               answer(400 + x, (3, 2, 0), (x, 0, 0), (x, 0, 1)),
+               Expected(number, ("answer", 15, 4), lab=x, apprentice=400 + x) if number
+               else legal(400 + x, 23, {x: [0, F, F, F, F, F, 4, 3], 67: EMPTY}))
 
 
 def legal_samples():
@@ -1137,9 +1166,8 @@ def class_answers():
             legal(101, 259, {170: COUNTER, 171: TIMER, 172: STATE, 202: INWARD, 203: OUTWARD}))
 
     p = dense()
-    hand_in("three full LABs, LAB 0 among them", class_answer(102, p),
-            legal(102, 259, {0: [0, F, 2, F, 1, F, 4, 3], 1: STATE,
-                             32: [0, 1, 2, F, 4, F, F, 3]}))
+    hand_in("three full LABs: in LAB 0 the counter has a sclr and the timer a sload",
+            class_answer(102, p), Expected(63, ("answer", 11, 4), lab=0, apprentice=102))
 
     p = dense()
     put(p, 22, 6, 0, 0, 7)
@@ -1263,6 +1291,7 @@ def all_samples():
         combinational_samples()
         place_samples()
         lab_samples()
+        table4_samples()
         legal_samples()
     return SAMPLES
 

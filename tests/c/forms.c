@@ -204,6 +204,29 @@ static void register_rules(void)
     }
 }
 
+/* Source 000, table 4: sload and sclr of the second register, beside (A, B) on the first; each "unconnected or GND" is both. */
+static void table4(void)
+{
+    enum { A = 10, B = 12, C = 14, OPEN = 0, GND = 1 };
+    static const struct {
+        uint16_t sload, sclr;
+        uint8_t number;
+    } lines[11] = {{A, B, 0}, {A, C, 63}, {B, A, 63}, {OPEN, OPEN, 0}, {OPEN, GND, 0}, {GND, OPEN, 0}, {GND, GND, 0},
+                   {A, OPEN, 63}, {A, GND, 63}, {OPEN, B, 63}, {GND, B, 63}};
+    static const uint8_t route[8] = {0, 255, 255, 255, 255, 255, 4, 3};
+    struct nurimkkot_cell cells[2];
+    int i, first;
+    for (i = 0; i < 11; i++)
+        for (first = 0; first < 2; first++) {
+            cells[first] = with(with(with(reg(4, 0, 0, 20), SLOAD, A), SCLR, B), SDATA, 2);
+            cells[1 - first] = with(with(with(reg(4, 0, 0, 22), SLOAD, lines[i].sload), SCLR, lines[i].sclr), SDATA, 2);
+            check("table 4", cells, 2, lines[i].number, lines[i].number ? NO_ROUTE : route);
+        }
+    cells[0] = with(with(with(reg(4, 0, 0, 20), SLOAD, 2), SCLR, B), SDATA, 2);
+    cells[1] = with(reg(4, 0, 0, 22), SCLR, B);
+    check("sload at VCC and open beside one sclr", cells, 2, 63, NO_ROUTE);
+}
+
 static void lists(void)
 {
     static const uint8_t listing[8] = {0, 255, 255, 255, 1, 255, 255, 255};
@@ -250,15 +273,19 @@ static void lists(void)
     for (i = 0; i < 2; i++)
         cells[i] = with(with(reg(4, 0, 0, (uint16_t)(20 + 2 * i)), SLOAD, (uint16_t)(10 + 2 * i)), SDATA, 2);
     check("two sload", cells, 2, 63, NO_ROUTE);
+    table4();
     cells[0] = reg(4, 0, 8, 20);
     cells[1] = reg(6, 0, 10, 22);
     check("P10", cells, 2, 0, p10);
     cells[0] = reg(4, 8, 12, 20);
     cells[1] = reg(6, 10, 14, 22);
     check("P11", cells, 2, 65, NO_ROUTE);
+    cells[0] = with(with(with(reg(4, 0, 8, 20), SCLR, 12), SLOAD, 14), SDATA, 2);
+    cells[1] = reg(6, 0, 10, 22);
+    check("P12", cells, 2, 0, p12);
     cells[0] = with(reg(4, 0, 8, 20), SCLR, 12);
     cells[1] = with(with(reg(6, 0, 10, 22), SLOAD, 14), SDATA, 2);
-    check("P12", cells, 2, 0, p12);
+    check("P12 with sclr and sload on two registers", cells, 2, 63, NO_ROUTE);
 
     for (k = 38; k <= 39; k++) {
         memset(cells, 0, sizeof cells);

@@ -9,6 +9,7 @@ mod generate;
 mod judge;
 mod plain;
 mod proved;
+mod sync;
 mod writer;
 mod writes;
 
@@ -145,6 +146,38 @@ fn registers(nets: u16, lab: usize, ports: &[&[(usize, u16)]]) -> Sheets {
         s.cells.push(c);
     }
     s
+}
+
+/// (sload, sclr) of two registers, and the entries of sclr and sload where they keep
+/// 63: the six lines of table 4 of source 000 with "unconnected or GND" in every mix,
+/// then what else M-101 says. All have nets 0 to 2.
+fn sync_pairs() -> Vec<((u16, u16), (u16, u16), Option<[u8; 2]>)> {
+    let (a, b, c) = (net(0), net(1), net(2));
+    let free = [0, GND];
+    let whole = Some([4, 3]);
+    let mut list = vec![
+        ((a, b), (a, b), whole),
+        ((a, b), (a, c), None),
+        ((a, b), (b, a), None),
+    ];
+    list.extend([(0, 0), (0, GND), (GND, 0), (GND, GND)].map(|p| ((a, b), p, whole)));
+    list.extend(free.map(|v| ((a, b), (a, v), None)));
+    list.extend(free.map(|v| ((a, b), (v, b), None)));
+    // Unconnected and GND are one value; VCC and an inverse are others.
+    list.extend([
+        ((a, 0), (a, GND), Some([255, 3])),
+        ((0, b), (GND, b), Some([4, 255])),
+        ((VCC, 0), (VCC, GND), Some([255, 255])),
+        ((0, VCC), (GND, GND), Some([255, 255])),
+        ((a, VCC), (a, VCC), Some([255, 3])),
+        ((a, 0), (0, b), None),
+        ((VCC, 0), (0, VCC), None),
+        ((a, b), (a + 1, b), None),
+        ((a, b), (a, b + 1), None),
+    ]);
+    list.extend(free.map(|v| ((VCC, b), (v, b), None)));
+    list.extend(free.map(|v| ((a, VCC), (a, v), None)));
+    list
 }
 
 fn examples() -> Vec<Example> {
@@ -300,6 +333,35 @@ fn examples() -> Vec<Example> {
         p12,
         Expect::Legal(vec![(992, [0, 2, 255, 255, 1, 4, 5, 3])]),
     );
+    let apart = registers(
+        7,
+        992,
+        &[
+            &[(CLK, n(0)), (ACLR, n(2)), (SCLR, n(4))],
+            &[(CLK, n(1)), (ACLR, n(3)), (SLOAD, n(5)), (SDATA, n(6))],
+        ],
+    );
+    add(
+        "P12 but for sclr and sload on two registers",
+        apart,
+        lab_rule(63, 992),
+    );
+
+    for (k, (first, second, entries)) in sync_pairs().into_iter().enumerate() {
+        let port = |(sload, sclr)| [(CLK, n(3)), (SLOAD, sload), (SCLR, sclr), (SDATA, n(4))];
+        let lab = 200 + k;
+        let expect = match entries {
+            Some([sclr, sload]) => {
+                Expect::Legal(vec![(lab, [0, 255, 255, 255, 255, 255, sclr, sload])])
+            }
+            None => lab_rule(63, lab as u64),
+        };
+        add(
+            &format!("(sload, sclr) {first:?} beside {second:?}"),
+            registers(5, lab, &[&port(first), &port(second)]),
+            expect,
+        );
+    }
 
     let three = registers(1, 40, &[&[(CLK, net(0))], &[(CLK, net(0) + 1)], &[]]);
     add("clocks A, inverse of A and GND", three, lab_rule(60, 40));
@@ -368,6 +430,7 @@ fn examples() -> Vec<Example> {
 
 fn run_examples(both: &mut Both, pattern: &[u8]) {
     let all = examples();
+    let mut seen = forms::Counts::new();
     for x in &all {
         let (e, a) = (x.sheets.exercise(), x.sheets.answer());
         let got = both
@@ -421,8 +484,25 @@ fn run_examples(both: &mut Both, pattern: &[u8]) {
             }
             exit(1);
         }
+        let said = said_of(&got);
+        if let Err(wrong) = forms::labs(&mut seen, &e, &a, both.route(), &said) {
+            print!("example {}, list check: {wrong}", x.name);
+            exit(1);
+        }
     }
-    println!("{} settled examples agree", all.len());
+    println!(
+        "{} settled examples agree, and the lists of {} of their LABs",
+        all.len(),
+        seen.judged
+    );
+}
+
+fn said_of(n: &[u64; 7]) -> forms::Said {
+    forms::Said {
+        number: n[0] as u8,
+        cell: n[1] as u16,
+        lab: n[2] as u16,
+    }
 }
 
 /// The readers on both sheets, the list of each LAB, and a list of no LAB.
@@ -433,11 +513,7 @@ fn compare_forms(
     n: &[u64; 7],
     route: &[u8],
 ) -> Result<(), String> {
-    let said = forms::Said {
-        number: n[0] as u8,
-        cell: n[1] as u16,
-        lab: n[2] as u16,
-    };
+    let said = said_of(n);
     forms::readers(seen, rng, &case.exercise, &case.answer, &said)?;
     forms::labs(seen, &case.exercise, &case.answer, route, &said)?;
     forms::list(seen, &forms::any_list(rng, &case.exercise)).map(|_| ())
@@ -474,7 +550,28 @@ fn report_forms(seen: &forms::Counts) -> bool {
         "lists of a LAB of which the judge says the same: {}",
         seen.judged
     );
+    missing |= report_sync("judge", &seen.lab_sync);
+    missing |= report_sync("list check", &seen.list_sync);
     missing || seen.judged == 0
+}
+
+/// Rule 63 by one of the two.
+fn report_sync(who: &str, seen: &sync::Counts) -> bool {
+    println!(
+        "63 by the {who}: {}, as pairs only: {}",
+        seen.broken, seen.pairs_only
+    );
+    let breaks = by_name("  refused", &sync::BREAKS.map(|b| b.0), &seen.breaks);
+    let kept = by_name("  legal", &sync::KEPT.map(|k| k.0), &seen.kept);
+    breaks || kept || seen.pairs_only == 0
+}
+
+/// One line; gives whether one of the names did not occur.
+fn by_name(title: &str, names: &[&str], counts: &[u64]) -> bool {
+    let pairs = names.iter().zip(counts);
+    let each: Vec<String> = pairs.map(|(name, n)| format!("{name}: {n}")).collect();
+    println!("{title}: {}", each.join(", "));
+    counts.contains(&0)
 }
 
 /// The same for the writers.

@@ -4,6 +4,7 @@
 use crate::generate::*;
 use crate::plain::{self, CellRecord, Step};
 use crate::proved;
+use crate::sync;
 
 /// Number, cell and LAB of the Rust judge's verdict.
 pub struct Said {
@@ -21,6 +22,9 @@ pub struct Counts {
     pub lists: [u64; 256],
     /// Lists of a LAB of which the Rust judge says the same.
     pub judged: u64,
+    /// Rule 63 in all lists, and in the LABs of which the Rust judge says the same.
+    pub list_sync: sync::Counts,
+    pub lab_sync: sync::Counts,
 }
 
 impl Counts {
@@ -32,6 +36,8 @@ impl Counts {
             places: [0; 3],
             lists: [0; 256],
             judged: 0,
+            list_sync: sync::Counts::new(),
+            lab_sync: sync::Counts::new(),
         }
     }
 }
@@ -188,6 +194,7 @@ pub fn list(counts: &mut Counts, list: &[CellRecord]) -> Result<(u8, [u8; 8]), S
         return Err(text);
     }
     counts.lists[a.0 as usize] += 1;
+    counts.list_sync.note(a.0, list);
     Ok(a)
 }
 
@@ -233,6 +240,7 @@ pub fn labs(
             continue;
         }
         counts.judged += 1;
+        counts.lab_sync.note(found, &own);
     }
     Ok(())
 }

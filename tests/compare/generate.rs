@@ -223,17 +223,13 @@ pub struct Case {
 struct Control {
     pairs: Vec<(u16, u16)>,
     aclr: Vec<u16>,
-    sclr: Vec<u16>,
-    sload: Vec<u16>,
+    /// (sload, sclr) with at least one in use; 0 stands for unconnected or GND.
+    sync: Vec<(u16, u16)>,
 }
 
 impl Control {
     fn spread(&self) -> usize {
-        self.pairs
-            .len()
-            .max(self.aclr.len())
-            .max(self.sclr.len())
-            .max(self.sload.len())
+        self.pairs.len().max(self.aclr.len()).max(self.sync.len())
     }
 
     /// Whether each need can have an entry of its own.
@@ -250,7 +246,9 @@ impl Control {
         let mut needs = Vec::new();
         let clk: Vec<u16> = self.pairs.iter().map(|p| p.0).collect();
         let ena: Vec<u16> = self.pairs.iter().map(|p| p.1).collect();
-        for (role, list) in [&clk, &ena, &self.aclr, &self.sclr, &self.sload]
+        let sload: Vec<u16> = self.sync.iter().map(|p| p.0).collect();
+        let sclr: Vec<u16> = self.sync.iter().map(|p| p.1).collect();
+        for (role, list) in [&clk, &ena, &self.aclr, &sclr, &sload]
             .into_iter()
             .enumerate()
         {
@@ -282,6 +280,49 @@ fn distinct(rng: &mut Rng, pool: &[u16], n: usize, constants: &[u16], share: usi
             list.push(v);
         }
     }
+    list
+}
+
+/// At most one (sload, sclr), each in use as often as `busy` says.
+fn one_sync(rng: &mut Rng, pool: &[u16], share: usize, busy: usize) -> Vec<(u16, u16)> {
+    let mut signal = || {
+        let n = rng.percent(busy) as usize;
+        distinct(rng, pool, n, &[VCC], share).pop().unwrap_or(0)
+    };
+    let pair = (signal(), signal());
+    if pair == (0, 0) {
+        vec![]
+    } else {
+        vec![pair]
+    }
+}
+
+/// Two (sload, sclr) that break 63, now and then with a third.
+fn unlike_sync(rng: &mut Rng, pool: &[u16], share: usize) -> Vec<(u16, u16)> {
+    let v = distinct(rng, pool, 4, &[VCC], share);
+    let (a, b, c, d) = (v[0], v[1], v[2], v[3]);
+    // Now and then one net at both ports.
+    let e = rng.pick(&[a, b, b, b, b, b]);
+    // What both have at the port where they are alike.
+    let same = rng.pick(&[0, a, c, c]);
+    let n = rng.pick(pool) + rng.percent(30) as u16;
+    let mut list = match rng.below(13) {
+        0 => vec![(same, a), (same, b)],
+        1 => vec![(a, same), (b, same)],
+        2 => vec![(a, b), (c, d)],
+        3 | 4 => vec![(a, e), (a, 0)],
+        5 | 6 => vec![(a, e), (0, e)],
+        7 => vec![(a, 0), (0, e)],
+        8 => vec![(a, b), (b, a)],
+        9 => vec![(VCC, a), (0, a)],
+        10 => vec![(a, VCC), (a, 0)],
+        11 => vec![(n, same), (n ^ 1, same)],
+        _ => vec![(same, n), (same, n ^ 1)],
+    };
+    if rng.percent(15) {
+        list.push(rng.pick(&[(a, 0), (0, b), (a, b), (b, a), (VCC, 0), (0, VCC)]));
+    }
+    rng.shuffle(&mut list);
     list
 }
 
@@ -317,22 +358,12 @@ fn control(rng: &mut Rng, pool: &[u16], want: u8) -> Control {
         };
         let open = if rng.percent(busy) { share } else { 80 };
         let aclr = distinct(rng, pool, clears, &[GND, GND, VCC], open);
-        let (mut one, mut two) = (rng.percent(busy) as usize, rng.percent(busy) as usize);
-        if over(rng, 63) {
-            match rng.below(3) {
-                0 => one = 2,
-                1 => two = 2,
-                _ => (one, two) = (2, 2),
-            }
-        }
-        let sclr = distinct(rng, pool, one, &[VCC], share);
-        let sload = distinct(rng, pool, two, &[VCC], share);
-        let c = Control {
-            pairs,
-            aclr,
-            sclr,
-            sload,
+        let sync = if over(rng, 63) {
+            unlike_sync(rng, pool, share)
+        } else {
+            one_sync(rng, pool, share, busy)
         };
+        let c = Control { pairs, aclr, sync };
         let fits = match want {
             0 | 64 => c.has_way(),
             65 => !c.has_way(),
@@ -347,6 +378,14 @@ fn control(rng: &mut Rng, pool: &[u16], want: u8) -> Control {
         } else {
             busy.saturating_sub(10).max(10)
         };
+    }
+}
+
+/// The one at the place, or any.
+fn one_of<T: Copy>(rng: &mut Rng, list: &[T], place: Option<usize>) -> T {
+    match place {
+        Some(j) => list[j % list.len()],
+        None => rng.pick(list),
     }
 }
 
@@ -421,35 +460,27 @@ impl<'a> Builder<'a> {
             return;
         }
         let rng = &mut *self.rng;
-        let of = |rng: &mut Rng, list: &[u16]| {
-            if shown {
-                rng.pick(list)
-            } else {
-                list[j % list.len()]
-            }
-        };
-        let (k, e) = if shown {
-            rng.pick(&control.pairs)
-        } else {
-            control.pairs[j % control.pairs.len()]
-        };
+        let place = (!shown).then_some(j);
+        let (k, e) = one_of(rng, &control.pairs, place);
         (c.s[CLK], c.s[ENA]) = (k, e);
         if e == VCC && rng.percent(60) {
             c.s[ENA] = 0;
         }
-        let plain = shown || (control.sclr.is_empty() && control.sload.is_empty());
-        if k == GND && e == VCC && plain && rng.percent(60) {
+        let has_sync = j < control.sync.len();
+        if k == GND && e == VCC && !has_sync && rng.percent(60) {
             (c.s[CLK], c.s[ENA]) = (0, 0);
         }
-        let a = of(rng, &control.aclr);
+        let a = one_of(rng, &control.aclr, place);
         c.s[ACLR] = if a == GND && rng.percent(60) { 0 } else { a };
         if c.s[CLK] != 0 {
-            for (port, list) in [(SCLR, &control.sclr), (SLOAD, &control.sload)] {
-                c.s[port] = if !list.is_empty() && (!shown || rng.percent(50)) {
-                    of(rng, list)
-                } else {
-                    rng.percent(15) as u16 * GND
-                };
+            // The whole pair or neither.
+            let (sload, sclr) = if has_sync || (!control.sync.is_empty() && rng.percent(50)) {
+                one_of(rng, &control.sync, place)
+            } else {
+                (0, 0)
+            };
+            for (port, v) in [(SLOAD, sload), (SCLR, sclr)] {
+                c.s[port] = if v == 0 && rng.percent(30) { GND } else { v };
             }
         }
         c.s[REGOUT] = self.output();
@@ -607,6 +638,8 @@ fn build(rng: &mut Rng, size: usize, labs: usize, chains: usize, want: u8) -> Sh
         1 => rng.below(labs.len()),
         _ => labs.len() - 1,
     };
+    // Now and then the LAB that breaks a lower rule breaks 64 too.
+    let crowded = want == 64 || (want != 0 && want < 64 && rng.percent(10));
     let mut b = Builder::new(rng);
     for _ in 0..chains {
         let lab = b.rng.pick(&labs);
@@ -632,7 +665,7 @@ fn build(rng: &mut Rng, size: usize, labs: usize, chains: usize, want: u8) -> Sh
         if is_broken {
             registers = registers.max(c.spread());
         }
-        if is_broken && want == 64 {
+        if is_broken && crowded {
             combinational = combinational.max(b.rng.range(9, 16));
         }
         for j in 0..registers {
@@ -644,7 +677,7 @@ fn build(rng: &mut Rng, size: usize, labs: usize, chains: usize, want: u8) -> Sh
     }
     let mut sheets = b.finish();
     sheets.cells.truncate(512);
-    if want == 64 {
+    if crowded {
         read_nets(rng, &mut sheets, labs[broken], 39);
     }
     sheets

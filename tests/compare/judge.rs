@@ -175,6 +175,12 @@ fn odd(v: u16) -> bool {
     v & 1 == 1
 }
 
+/// sclr or sload as rule 63 sees it: GND is as good as unconnected.
+#[inline(always)]
+fn in_use(v: u16) -> u32 {
+    (if v > GND { v } else { 0 }) as u32
+}
+
 fn at_exercise_head(number: u8, exercise: &[u8]) -> Verdict {
     let size = exercise.len().min(9) as u64;
     Verdict {
@@ -587,8 +593,8 @@ fn lab_rules(
     let mut clk = Two::new();
     let mut pair = Two::new();
     let mut aclr = Two::new();
-    let mut sclr = Two::new();
-    let mut sload = Two::new();
+    // (sload, sclr) of the registers that use one of them, by or and by and.
+    let (mut any, mut all) = (0, u32::MAX);
     for s in list(registers) {
         let used = s[REGOUT] != 0;
         let or = |v: u16, open: u16| (if (v == 0) & used { open } else { v }) as u32;
@@ -596,8 +602,9 @@ fn lab_rules(
         clk.add(k, k != 0);
         pair.add(k << 16 | e, k != 0);
         aclr.add(a, a != 0);
-        sclr.add(s[SCLR] as u32, s[SCLR] > GND);
-        sload.add(s[SLOAD] as u32, s[SLOAD] > GND);
+        let both = in_use(s[SLOAD]) << 16 | in_use(s[SCLR]);
+        any |= both;
+        all &= if both == 0 { u32::MAX } else { both };
     }
     if clk.n > 2 {
         return Err(60);
@@ -608,9 +615,11 @@ fn lab_rules(
     if aclr.n > 2 {
         return Err(62);
     }
-    if sclr.n > 1 || sload.n > 1 {
+    // Both are the same only where all these pairs are.
+    if (any != 0) & (any != all) {
         return Err(63);
     }
+    let (sload, sclr) = ((any >> 16) as u16, any as u16);
     // After 34 each connected ena stands in a pair.
     let mut ena = Two::new();
     for &p in &pair.v[..pair.n] {
@@ -645,9 +654,11 @@ fn lab_rules(
             count(s[DATAIN]);
             count(s[SDATA]);
         }
-        for set in [&clk, &ena, &aclr, &sclr, &sload] {
+        for set in [&clk, &ena, &aclr] {
             set.v[..set.n].iter().for_each(|&v| count(v as u16));
         }
+        count(sclr);
+        count(sload);
         if read > 38 {
             return Err(64);
         }
@@ -657,8 +668,8 @@ fn lab_rules(
         clk.nets(),
         ena.nets(),
         aclr.nets(),
-        sclr.nets(),
-        sload.nets(),
+        (sclr >= FIRST_NET) as usize,
+        (sload >= FIRST_NET) as usize,
     );
     if WAYS[way][0] == NO_WAY {
         Err(65)

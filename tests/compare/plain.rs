@@ -164,6 +164,18 @@ fn earliest(roles: &[usize], way: &mut Vec<u8>) -> bool {
     false
 }
 
+/// What the register fixes of (sload, sclr), where it uses one of them (M-101).
+fn sync_pair(c: &CellRecord) -> Option<(u16, u16)> {
+    let used = |v: u16| v != 0 && v != 1;
+    let [_, _, _, _, sclr, sload, ..] = c.signals;
+    match (used(sload), used(sclr)) {
+        (false, false) => None,
+        (true, false) => Some((sload, 1)),
+        (false, true) => Some((1, sclr)),
+        (true, true) => Some((sload, sclr)),
+    }
+}
+
 pub fn check_list(list: &[CellRecord]) -> (u8, [u8; 8]) {
     let none = [255; 8];
     let unfit = |c: &CellRecord| !keeps_layout(c, 1024) || (c.kind == 2 && breaks_register_rule(c));
@@ -174,6 +186,7 @@ pub fn check_list(list: &[CellRecord]) -> (u8, [u8; 8]) {
     let [clks, aclrs, enas] = &mut counted;
     let (mut sclrs, mut sloads) = (BTreeSet::new(), BTreeSet::new());
     let mut pairs = BTreeSet::new();
+    let mut sync_pairs = BTreeSet::new();
     let (mut read, mut driven) = (BTreeSet::new(), BTreeSet::new());
     for c in list {
         let Some((inputs, outputs, _)) = ports(c) else {
@@ -203,11 +216,14 @@ pub fn check_list(list: &[CellRecord]) -> (u8, [u8; 8]) {
             aclrs.insert(aclr);
         }
         enas.insert(ena);
-        if sclr > 1 {
+        if is_net(sclr) {
             sclrs.insert(sclr);
         }
-        if sload > 1 {
+        if is_net(sload) {
             sloads.insert(sload);
+        }
+        if let Some(pair) = sync_pair(c) {
+            sync_pairs.insert(pair);
         }
     }
     if clks.len() > 2 {
@@ -219,7 +235,7 @@ pub fn check_list(list: &[CellRecord]) -> (u8, [u8; 8]) {
     if aclrs.len() > 2 {
         return (62, none);
     }
-    if sclrs.len() > 1 || sloads.len() > 1 {
+    if sync_pairs.len() > 1 {
         return (63, none);
     }
     if read.difference(&driven).count() > 38 {

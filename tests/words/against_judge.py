@@ -40,7 +40,7 @@ BYTES = {"clk": (0, 1), "ena": (2, 3), "aclr": (4, 5), "sclr": (6,), "sload": (7
 CELL = re.compile(r"cell (\d+): (combinational|register), flag [01](.*); "
                   r"place x (\d+) y (\d+) LE (\d+), LAB (\d+)")
 LAB = re.compile(r"lab (\d+), x (\d+) y (\d+): (\d+) cells?: ([\d ]+)")
-COUNT = re.compile(r"  (clk|\(clk, ena\)|aclr|sclr|sload|nets in|needs): (\d+)")
+COUNT = re.compile(r"  (clk|\(clk, ena\)|aclr|\(sload, sclr\)|nets in|needs): (\d+)")
 BROUGHT = re.compile(r"    (\(.+?\)|GND|VCC|/?net \d+): (cell .*)")
 
 
@@ -85,7 +85,7 @@ def read_labs(text):
 
 def brought(cells, lab):
     """What the registers of a LAB bring, from the lines of the cells alone."""
-    out = {"clk": {}, "(clk, ena)": {}, "aclr": {}, "sclr": {}, "sload": {}}
+    out = {"clk": {}, "(clk, ena)": {}, "aclr": {}, "(sload, sclr)": {}}
 
     def bring(name, signal, i, *is_open):
         note = " (%s open)" % " and ".join(is_open) if is_open else ""
@@ -103,9 +103,9 @@ def brought(cells, lab):
                   *note("clk", "ena"))
         if value["aclr"]:
             bring("aclr", value["aclr"], i, *note("aclr"))
-        for name in ("sclr", "sload"):
-            if value[name] not in (None, "GND"):
-                bring(name, value[name], i)
+        load, clear = (ports.get(name, "GND") for name in ("sload", "sclr"))
+        if load != "GND" or clear != "GND":
+            bring("(sload, sclr)", "(%s, %s)" % (load, clear), i, *note("sload", "sclr"))
     return {name: {signal: ", ".join(cells) for signal, cells in counted.items()}
             for name, counted in out.items()}
 
@@ -135,7 +135,7 @@ def broken(lab):
         return 61
     if len(lab["aclr"]) > 2:
         return 62
-    if len(lab["sclr"]) > 1 or len(lab["sload"]) > 1:
+    if len(lab["(sload, sclr)"]) > 1:
         return 63
     if len(lab["nets in"]) > 38:
         return 64
@@ -189,7 +189,7 @@ def hold(what, ex, an, tally):
     tally[number] = tally.get(number, 0) + 1
     for has in labs.values():
         at_most = (len(has["clk"]) == 2, len(has["(clk, ena)"]) == 2, len(has["aclr"]) == 2,
-                   len(has["sclr"]) + len(has["sload"]) == 2, len(has["nets in"]) == 38,
+                   len(has["(sload, sclr)"]) == 1, len(has["nets in"]) == 38,
                    len(has["needs"]) == 6)
         for rule, is_full in zip(range(60, 66), at_most):
             if number == 0 and is_full:
@@ -234,10 +234,23 @@ def random_register(rng, ports, data, output):
     ena = pick("ena")
     if "pairs" in ports:
         clk, ena = pick("pairs")
-    sload = pick("sload")
+    sload, sclr = rng.choice(ports["synchronous"])
     sdata = any_data() if sload == OPEN else rng.choice([VCC, net(rng.choice(data))])
-    return reg(d=any_data(), clk=clk, ena=ena, aclr=pick("aclr"), sclr=pick("sclr"),
+    return reg(d=any_data(), clk=clk, ena=ena, aclr=pick("aclr"), sclr=sclr,
                sload=sload, sdata=sdata, q=net(output))
+
+
+def synchronous(rng, controls, tame):
+    """(sload, sclr) pairs: one pair with open and GND in each other's place, open and GND at both,
+    and, where 63 may break, a second pair that has something of the first."""
+    signal = lambda: rng.choice([OPEN, GND, VCC, either(rng, rng.choice(controls))])
+    either_open = lambda s: rng.choice([OPEN, GND]) if s in (OPEN, GND) else s
+    load, clear = signal(), signal()
+    pairs = [(either_open(load), either_open(clear)), (load, clear),
+             (rng.choice([OPEN, GND]), rng.choice([OPEN, GND]))]
+    if not tame:
+        pairs.append(rng.choice([(load, signal()), (signal(), clear), (clear, load)]))
+    return pairs
 
 
 def fill_lab(rng, nets, pool, x, y, taken, cells):
@@ -247,12 +260,13 @@ def fill_lab(rng, nets, pool, x, y, taken, cells):
     controls = rng.sample(pool, 6) + inside[:1]
     tame = rng.random() < 0.6
     ports = {name: control(rng, most if tame else most + 1, controls)
-             for name, most in (("clk", 2), ("ena", 1), ("aclr", 2), ("sclr", 1), ("sload", 1))}
+             for name, most in (("clk", 2), ("ena", 1), ("aclr", 2))}
+    ports["synchronous"] = synchronous(rng, controls, tame)
     if rng.random() < 0.3:
-        # Many needs: two pairs of nets, two aclr, often sclr and sload.
+        # Many needs: two pairs of nets, two aclr, often sclr or sload or both.
         two = lambda: [either(rng, n) for n in rng.sample(controls, 2)]
-        ports.update(pairs=list(zip(two(), two())), aclr=two(),
-                     sclr=rng.choice([[], two()[:1]]), sload=rng.choice([[], two()[:1]]))
+        some = lambda: rng.choice([OPEN, two()[0]])
+        ports.update(pairs=list(zip(two(), two())), aclr=two(), synchronous=[(some(), some())])
     free = [le for le in range(16) if (2, x, y, le) not in taken]
     for le in rng.sample(free, rng.randint(0, min(len(free), rng.choice([2, 4, 16])))):
         output = None if rng.random() < 0.15 else inside.pop() if inside else nets.fresh()

@@ -245,7 +245,9 @@ def interrupted(place):
         place.fill({**OLD, "exercise.csv": "kind\n" + '""\n' * 4000000})
         before = place.found()
         call = [sys.executable, "-I", "-B", os.path.join(place.top, "tools", "csv_sheets.py"), "write", place.shared_object, place.folder]
-        process = subprocess.Popen(call, stdout=subprocess.PIPE, stderr=subprocess.PIPE)
+        # A test that runs in the background may be started with SIGINT ignored, and the script leaves an ignored signal ignored.
+        process = subprocess.Popen(call, stdout=subprocess.PIPE, stderr=subprocess.PIPE,
+                                   preexec_fn=lambda: [signal.signal(n, signal.SIG_DFL) for n in csv_sheets.STOPPING])
         # Until the script catches the last of its signals: signal n is bit n - 1.
         caught = 0
         while process.poll() is None and not caught >> (csv_sheets.STOPPING[-1] - 1) & 1:

@@ -164,6 +164,18 @@ distinct-image f xs ys h =
     λ z m. let g = map-in f z ys (h z m) in in-map f z (g .0) (rising ys) (rising-in (g .0) ys (g .1)) (g .2) in
     omega (arith, distinct-mono xs (map f (rising ys)) made, distinct-length (map f (rising ys)), length-map (rising ys) f)
 
+-- what is made from one number, however often it is there
+pub rising-one : (f : ℕ → ℕ) (xs : List ℕ) → distinct xs ≤ 1 → rising (map f xs) ≡ map f (rising xs)
+rising-one f xs h =
+    same (rising (map f xs)) (map f (rising xs)) (rising-above (map f xs)) (short (rising xs) h)
+    (λ z m. let g = map-in f z xs (in-rising z (map f xs) m) in in-map f z (g .0) (rising xs) (rising-in (g .0) xs (g .1)) (g .2))
+    (λ z m. let g = map-in f z (rising xs) m in rising-in z (map f xs) (in-map f z (g .0) xs (in-rising (g .0) xs (g .1)) (g .2)))
+  where
+    short : (l : List ℕ) → length l ≤ 1 → Above 0 (map f l)
+    short [] h = tt
+    short (a ∷ []) h = (omega arith, tt)
+    short (a ∷ b ∷ l) h = absurd (omega arith)
+
 -- ---- those that pass a test
 module _ (p : ℕ → Bool) where
   pub filter-above : (b : ℕ) (l : List ℕ) → Above b l → Above b (filterb p l)

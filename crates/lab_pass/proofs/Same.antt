@@ -27,21 +27,20 @@ same-codes a b h =
     let q = and-parts _ _ (p .0) in
     codes-equal _ _ _ _ _ _ (eqb-true (a .count) (b .count) (q .0)) (eqb-true (a .low) (b .low) (q .1)) (eqb-true (a .high) (b .high) (p .1))
 
-counts-equal : (c p r s l e c′ p′ r′ s′ l′ e′ : UpToTwo) → c ≡ c′ → p ≡ p′ → r ≡ r′ → s ≡ s′ → l ≡ l′ → e ≡ e′
-    → _≡_ {A = Counts} (record { clocks = c; pairs = p; clears = r; «sync_clears» = s; «sync_loads» = l; enables = e })
-    (record { clocks = c′; pairs = p′; clears = r′; «sync_clears» = s′; «sync_loads» = l′; enables = e′ })
-counts-equal c p r s l e c′ p′ r′ s′ l′ e′ hc hp hr hs hl he = rw (hc, hp, hr, hs, hl, he)
+counts-equal : (c p r s e c′ p′ r′ s′ e′ : UpToTwo) → c ≡ c′ → p ≡ p′ → r ≡ r′ → s ≡ s′ → e ≡ e′
+    → _≡_ {A = Counts} (record { clocks = c; pairs = p; clears = r; synchronous = s; enables = e })
+    (record { clocks = c′; pairs = p′; clears = r′; synchronous = s′; enables = e′ })
+counts-equal c p r s e c′ p′ r′ s′ e′ hc hp hr hs he = rw (hc, hp, hr, hs, he)
 
 same-counts : (a b : Counts) → sameCounts a b ≡ true → a ≡ b
 unfolding sameCounts
 same-counts a b h =
     let e = and-parts _ _ h in
-    let l = and-parts _ _ (e .0) in
-    let s = and-parts _ _ (l .0) in
+    let s = and-parts _ _ (e .0) in
     let r = and-parts _ _ (s .0) in
     let p = and-parts _ _ (r .0) in
-    counts-equal _ _ _ _ _ _ _ _ _ _ _ _ (same-codes _ _ (p .0)) (same-codes _ _ (p .1)) (same-codes _ _ (r .1)) (same-codes _ _ (s .1))
-    (same-codes _ _ (l .1)) (same-codes _ _ (e .1))
+    counts-equal _ _ _ _ _ _ _ _ _ _ (same-codes _ _ (p .0)) (same-codes _ _ (p .1)) (same-codes _ _ (r .1)) (same-codes _ _ (s .1))
+    (same-codes _ _ (e .1))
 
 module _ (t : Table) (a b : Counted) (s : Bool) (q : s ≡ sameCounted a b) (h : s ≡ true) where
   pub same-result : {r : LabResult} → r ≡ resultFrom t (b .counts) (b .nets) → r ≡ resultFrom t (a .counts) (a .nets)

@@ -165,8 +165,7 @@ fn same_counts(a: Counts, b: Counts) -> bool
     same_codes(a.clocks, b.clocks)
         & same_codes(a.pairs, b.pairs)
         & same_codes(a.clears, b.clears)
-        & same_codes(a.sync_clears, b.sync_clears)
-        & same_codes(a.sync_loads, b.sync_loads)
+        & same_codes(a.synchronous, b.synchronous)
         & same_codes(a.enables, b.enables)
 }
 

@@ -19,7 +19,7 @@ use Rattle.lab_nets.specs.NetsIn.{inputs, netsAt, netsIn}
 use Rattle.lab_nets.specs.passes.Uses.{markCells}
 use Rattle.lab_nets.proofs.Cells.{nets-marked}
 use Rattle.lab_rules.specs.declared.Counts.{Counts}
-use Rattle.lab_rules.specs.Ports.{ena, sclr, sload, clock, clockPair, clear, inUse, needed, inLab}
+use Rattle.lab_rules.specs.Ports.{ena, clock, clockPair, clear, synchronous, needed, inLab}
 use Rattle.lab_rules.specs.passes.Counts.{noCounts, countsWith, countsAll, countsOf, AllFit}
 
 -- ---- counts
@@ -34,8 +34,7 @@ countsFrom k cs = record {
   clocks = withCodes (k .clocks) (inLab clock cs);
   pairs = withCodes (k .pairs) (inLab clockPair cs);
   clears = withCodes (k .clears) (inLab clear cs);
-  «sync_clears» = withCodes (k .«sync_clears») (inLab (inUse sclr) cs);
-  «sync_loads» = withCodes (k .«sync_loads») (inLab (inUse sload) cs);
+  synchronous = withCodes (k .synchronous) (inLab synchronous cs);
   enables = withCodes (k .enables) (inLab (needed ena) cs);
 }
 

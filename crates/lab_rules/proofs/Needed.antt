@@ -1,15 +1,15 @@
 -- A LAB that keeps 60 to 63 has its needs in its counts, and no role has more needs than route bytes: eight in all.
 -- Assumes nothing.
-use Prim.Native.Nat.{ℕ, zero, suc, _+_, _%_, _≤_, _<_}
+use Prim.Native.Nat.{ℕ, zero, suc, _+_, _≤_, _<_}
 use mathlib.Core.Path.{_≡_, refl, sym, ap, _∙_}
 use mathlib.Core.Logic.{inl, inr, ⊎-elim}
-use mathlib.Core.Bool.{Bool, true, false, cond, _&&_, _||_}
-use mathlib.Core.List.{List, [], _∷_}
+use mathlib.Core.Bool.{Bool, true, false, cond, not, _&&_, _||_}
+use mathlib.Core.List.{List, [], _∷_, map}
 use native.Mathlib.Omega.{arith}
 use lib.ListN.{length, getD, length-append, length-map}
 use lib.Dec.{eqb, ltb}
 use borrow.Author.Tests.{ltb-false, leb-true, le-leb, ne-eqb, lt-ltb}
-use Rattle.sheet.specs.Lists.{filterb}
+use Rattle.sheet.specs.Lists.{filterb, Every}
 use Rattle.sheet.specs.Signal.{GND, connected, isNet}
 use Rattle.exercise.specs.declared.RegisterCell.{RegisterCell}
 use Rattle.exercise.specs.declared.Record.{Record}
@@ -24,9 +24,11 @@ use Rattle.distinct.proofs.Codes.{codes-held}
 use Rattle.route.specs.declared.Need.{Need}
 use Rattle.route.specs.Table.{CLK, ENA, ACLR, SCLR, SLOAD}
 use Rattle.lab_nets.specs.NetsIn.{inputs}
-use Rattle.lab_rules.specs.Ports.{clk, ena, aclr, sclr, sload, used, counted, clock, clockPair, clear, pair, inUse, needed, inLab}
+use Rattle.lab_rules.specs.Ports.{clk, ena, aclr, sclr, sload, used, counted, clock, clockPair, clear, pair, inUse, synchronous, needed, inLab}
 use Rattle.lab_rules.specs.Rules.{tooManyClocks, tooManyPairs, tooManyClears, tooManySynchronous, needsOfRole, needs}
-use Rattle.lab_rules.specs.passes.Counts.{countsOf, onlyCode, needsHeld, Fit, AllFit}
+use Rattle.lab_rules.specs.Stricter.{usedAt, tooManyApart, SixteenBits, Stricter}
+use Rattle.lab_rules.specs.passes.Counts.{countsOf, onlyCode, first, second, needsHeld, Fit, AllFit}
+use Rattle.lab_rules.proofs.Stricter.{Half, sclr-half, sload-half, one-half, stricter}
 
 -- ---- lists
 only-held : (l : List ℕ) → length l ≤ 1 → onlyCode (upToTwo l) ≡ l
@@ -49,6 +51,12 @@ ports-small r fit = (
     small : (s : ℕ) → In s (inputs (Register r)) → s < 65536
     small s m = omega (arith, fit .small-inputs s (in-elem s (inputs (Register r)) m))
 
+all-small : (cs : List Record) → AllFit cs → Every SixteenBits cs
+all-small [] fit = tt
+all-small (Register r ∷ cs) fit = (let p = ports-small r (fit .0) in (p .3, p .4), all-small cs (fit .1))
+all-small (Combinational c ∷ cs) fit = (tt, all-small cs (fit .1))
+all-small (Malformed ∷ cs) fit = (tt, all-small cs (fit .1))
+
 -- ---- a port's nets are the nets among what counts there
 -- the test of `netCodes`
 abbrev netCode : ℕ → Bool
@@ -60,6 +68,9 @@ one-net : (s : ℕ) (b : Bool) (other : List ℕ) → s < 65536 → (4 ≤ s →
 one-net s b other small h none =
     by-test (isNet s) (λ n. rw (h (leb-true 4 s n), n, lt-ltb s 65536 small)) (λ n. rw n (by-test b (λ e. rw (e, n)) (λ e. rw e none)))
 
+net-used : (s : ℕ) → 4 ≤ s → inUse s ≡ true
+net-used s n = rw (ne-eqb s 0 (λ e. omega arith), ne-eqb s GND (λ e. omega arith))
+
 module _ (port : RegisterCell → ℕ) (r : RegisterCell) (small : port r < 65536) where
   nets-counted : (default : ℕ) → isNet default ≡ false → filterb netCode (counted port default r) ≡ needed port r
   unfolding counted needed
@@ -67,19 +78,20 @@ module _ (port : RegisterCell → ℕ) (r : RegisterCell) (small : port r < 6553
       one-net (port r) (connected (port r)) (cond (used r) (default ∷ []) []) small (λ n. rw (ne-eqb (port r) 0 (λ e. omega arith)))
       (by-test (used r) (λ e. rw (e, q)) (λ e. rw e))
 
-  nets-in-use : filterb netCode (inUse port r) ≡ needed port r
-  unfolding inUse needed
-  nets-in-use =
-      flip (eqb (port r) 0 || eqb (port r) GND)
-      (λ n. rw (ne-eqb (port r) 0 (λ e. omega arith), ne-eqb (port r) GND (λ e. omega arith)))
-    where
-      flip : (b : Bool) → (4 ≤ port r → b ≡ false) → filterb netCode (cond b [] (port r ∷ [])) ≡ cond (isNet (port r)) (port r ∷ []) []
-      flip true h = one-net (port r) false [] small (λ n. sym (h n)) refl
-      flip false h = one-net (port r) true [] small (λ n. refl) refl
+  nets-in-use : filterb netCode (usedAt port r) ≡ needed port r
+  unfolding usedAt needed
+  nets-in-use = one-net (port r) (inUse (port r)) [] small (net-used (port r)) refl
 
   nets-needed : filterb netCode (needed port r) ≡ needed port r
   unfolding needed
   nets-needed = one-net (port r) (isNet (port r)) [] small (λ n. le-leb 4 (port r) n) refl
+
+-- nothing that is not in use is a net
+nets-among : (l : List ℕ) → filterb netCode (filterb inUse l) ≡ filterb netCode l
+nets-among [] = refl
+nets-among (s ∷ l) =
+    let h = nets-among l in
+    by-test (isNet s) (λ n. rw (net-used s (leb-true 4 s n), h)) (λ n. by-test (inUse s) (λ e. rw (e, n, h)) (λ e. rw (e, n, h)))
 
 module _ (f g : RegisterCell → List ℕ) (h : (r : RegisterCell) → Fit (Register r) → filterb netCode (f r) ≡ g r) where
   nets-lab : (cs : List Record) → AllFit cs → filterb netCode (inLab f cs) ≡ inLab g cs
@@ -93,10 +105,6 @@ module _ (f g : RegisterCell → List ℕ) (h : (r : RegisterCell) → Fit (Regi
   nets-rising cs fit = rising-filter netCode (inLab f cs) ∙ ap rising (nets-lab cs fit)
 
 -- ---- each ena that is a net has a pair of its own
--- the second of a pair
-abbrev second : ℕ → ℕ
-second n = n % 65536
-
 pair-second : (a s : ℕ) → s < 65536 → s ≡ second (pair a s)
 pair-second a s h = omega arith
 
@@ -161,11 +169,11 @@ module _ (cs : List Record) where
     nets-aclr : Nets clear aclr
     nets-aclr = nets-rising clear (needed aclr) (λ r g. nets-counted aclr r (ports-small r g .2) _ refl) cs fit
 
-    nets-sclr : Nets (inUse sclr) sclr
-    nets-sclr = nets-rising (inUse sclr) (needed sclr) (λ r g. nets-in-use sclr r (ports-small r g .3)) cs fit
+    nets-sclr : Nets (usedAt sclr) sclr
+    nets-sclr = nets-rising (usedAt sclr) (needed sclr) (λ r g. nets-in-use sclr r (ports-small r g .3)) cs fit
 
-    nets-sload : Nets (inUse sload) sload
-    nets-sload = nets-rising (inUse sload) (needed sload) (λ r g. nets-in-use sload r (ports-small r g .4)) cs fit
+    nets-sload : Nets (usedAt sload) sload
+    nets-sload = nets-rising (usedAt sload) (needed sload) (λ r g. nets-in-use sload r (ports-small r g .4)) cs fit
 
     module _ (h60 : tooManyClocks cs ≡ false) (h61 : tooManyPairs cs ≡ false) (h62 : tooManyClears cs ≡ false) (h63 : tooManySynchronous cs ≡ false) where
       -- what 60 to 63 say of the counts
@@ -181,11 +189,23 @@ module _ (cs : List Record) where
       unfolding tooManyClears
       clears-two = ltb-false 2 (distinct (inLab clear cs)) h62
 
-      synchronous-one : (distinct (inLab (inUse sclr) cs) ≤ 1) × (distinct (inLab (inUse sload) cs) ≤ 1)
+      synchronous-one : distinct (inLab synchronous cs) ≤ 1
       unfolding tooManySynchronous
-      synchronous-one =
-          let g = or-parts (ltb 1 (distinct (inLab (inUse sclr) cs))) (ltb 1 (distinct (inLab (inUse sload) cs))) h63 in
-          (ltb-false 1 (distinct (inLab (inUse sclr) cs)) (g .0), ltb-false 1 (distinct (inLab (inUse sload) cs)) (g .1))
+      synchronous-one = ltb-false 1 (distinct (inLab synchronous cs)) h63
+
+      apart-one : (distinct (inLab (usedAt sclr) cs) ≤ 1) × (distinct (inLab (usedAt sload) cs) ≤ 1)
+      unfolding Stricter tooManyApart
+      apart-one =
+          let g = or-parts (ltb 1 (distinct (inLab (usedAt sclr) cs))) (ltb 1 (distinct (inLab (usedAt sload) cs))) (stricter cs (all-small cs fit) h63) in
+          (ltb-false 1 (distinct (inLab (usedAt sclr) cs)) (g .0), ltb-false 1 (distinct (inLab (usedAt sload) cs)) (g .1))
+
+      -- the nets of the one pair
+      pair-nets : (half : ℕ → ℕ) (port : RegisterCell → ℕ) → Half half port → Nets (usedAt port) port
+          → filterb netCode (map half (rising (inLab synchronous cs))) ≡ rising (inLab (needed port) cs)
+      pair-nets half port h n =
+          sym (nets-among (map half (rising (inLab synchronous cs))))
+          ∙ ap (filterb netCode) (one-half half port h cs (all-small cs fit) synchronous-one)
+          ∙ n
 
       -- 65
       pub needs-held : needsHeld (countsOf cs) ≡ needs cs
@@ -195,13 +215,12 @@ module _ (cs : List Record) where
             codes-held (rising (inLab clock cs)) clocks-two,
             codes-held (rising (inLab (needed ena) cs)) enables-two,
             codes-held (rising (inLab clear cs)) clears-two,
-            only-held (rising (inLab (inUse sclr) cs)) (synchronous-one .0),
-            only-held (rising (inLab (inUse sload) cs)) (synchronous-one .1),
+            only-held (rising (inLab synchronous cs)) synchronous-one,
             nets-clk,
             nets-ena,
             nets-aclr,
-            nets-sclr,
-            nets-sload,
+            pair-nets second sclr sclr-half nets-sclr,
+            pair-nets first sload sload-half nets-sload,
           )
 
       bounds : (distinct (inLab (needed clk) cs) ≤ 2) × (distinct (inLab (needed ena) cs) ≤ 2) × (distinct (inLab (needed aclr) cs) ≤ 2)
@@ -210,8 +229,8 @@ module _ (cs : List Record) where
         omega (arith, clocks-two, nets-fewer clock clk nets-clk),
         enables-two,
         omega (arith, clears-two, nets-fewer clear aclr nets-aclr),
-        omega (arith, synchronous-one .0, nets-fewer (inUse sclr) sclr nets-sclr),
-        omega (arith, synchronous-one .1, nets-fewer (inUse sload) sload nets-sload),
+        omega (arith, apart-one .0, nets-fewer (usedAt sclr) sclr nets-sclr),
+        omega (arith, apart-one .1, nets-fewer (usedAt sload) sload nets-sload),
       )
 
       pub needs-eight : length (needs cs) ≤ 8

@@ -18,7 +18,7 @@ use Rattle.route.specs.Table.{Table}
 use Rattle.route.specs.Way.{earliestWay}
 use Rattle.route.specs.Route.{labRouteOf}
 use Rattle.lab_nets.specs.NetsIn.{inputs, netsAt, netsIn}
-use Rattle.lab_rules.specs.Ports.{clk, ena, aclr, sclr, sload, clock, clockPair, clear, inUse, needed, ofRegister, inLab}
+use Rattle.lab_rules.specs.Ports.{clk, ena, aclr, sclr, sload, clock, clockPair, clear, synchronous, needed, ofRegister, inLab}
 use Rattle.lab_rules.specs.Rules.{tooManyClocks, tooManyPairs, tooManyClears, tooManySynchronous, tooManyNets, needs, noWay, labNumber, routeOf, labResult}
 
 -- ---- what the elements of a list bring, in another order
@@ -71,7 +71,7 @@ module _ (cs ds : List Record) (p : List·Permᴰ cs ds) where
   same-number : (t : Table) → labNumber t cs ≡ labNumber t ds
   unfolding labNumber tooManyClocks tooManyPairs tooManyClears tooManySynchronous tooManyNets noWay
   same-number t =
-      rw (same-signals clock, same-signals clockPair, same-signals clear, same-signals (inUse sclr), same-signals (inUse sload), same-nets, same-needs)
+      rw (same-signals clock, same-signals clockPair, same-signals clear, same-signals synchronous, same-nets, same-needs)
 
   same-route : (t : Table) → routeOf t cs ≡ routeOf t ds
   unfolding routeOf

@@ -18,7 +18,7 @@ use Rattle.route.specs.Table.{Table}
 use Rattle.route.specs.Way.{earliestWay}
 use Rattle.route.specs.Route.{labRouteOf}
 use Rattle.lab_nets.specs.NetsIn.{netsIn}
-use Rattle.lab_rules.specs.Ports.{sclr, sload, clock, clockPair, clear, inUse, inLab}
+use Rattle.lab_rules.specs.Ports.{clock, clockPair, clear, synchronous, inLab}
 use Rattle.lab_rules.specs.Rules.{tooManyClocks, tooManyPairs, tooManyClears, tooManySynchronous, tooManyNets, needs, isNone, noWay, labRules, routeOf, labResult}
 use Rattle.lab_rules.specs.passes.Counts.{countsOf, brokenBy, routedResult, resultFrom, AllFit}
 use Rattle.lab_rules.proofs.Needed.{needs-held}
@@ -31,8 +31,7 @@ broken-is cs =
       more-than 2 (omega arith) (rising (inLab clock cs)),
       more-than 2 (omega arith) (rising (inLab clockPair cs)),
       more-than 2 (omega arith) (rising (inLab clear cs)),
-      more-than 1 (omega arith) (rising (inLab (inUse sclr) cs)),
-      more-than 1 (omega arith) (rising (inLab (inUse sload) cs)),
+      more-than 1 (omega arith) (rising (inLab synchronous cs)),
     )
 
 -- 65 where no way is found

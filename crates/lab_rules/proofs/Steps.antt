@@ -2,12 +2,13 @@
 use Prim.Native.Nat.{ℕ, _+_, _≤_}
 use mathlib.Core.Path.{_≡_, refl, _∙_}
 use mathlib.Core.Logic.{_⊎_, inl, inr}
-use mathlib.Core.Bool.{Bool, true, false, cond, _&&_}
-use mathlib.Core.List.{List, [], _∷_, _++_, append-nil, append-assoc}
+use mathlib.Core.Bool.{Bool, true, false, cond, _&&_, _||_}
+use mathlib.Core.List.{List, [], _∷_, _++_, map, append-nil, append-assoc}
 use native.Mathlib.Omega.{arith}
 use denote.Enum.Declared.{tagOf}
 use lib.ListN.{length, length-append, length-map}
 use lib.Dec.{eqb, ltb}
+use borrow.Author.Tests.{ltb-true, ltb-false, eq-eqb, ne-eqb, eqb-false}
 use Rattle.sheet.specs.Signal.{VCC, connected, isNet}
 use Rattle.exercise.specs.declared.RegisterCell.{RegisterCell}
 use Rattle.exercise.specs.declared.Record.{Record}
@@ -25,9 +26,18 @@ use Rattle.route.specs.Way.{earliestWay}
 use Rattle.route.specs.Route.{labRouteOf}
 use Rattle.route.proofs.NeedLists.{no-needs-of, list-needs, with-need}
 use Rattle.lab_rules.specs.declared.Counts.{Counts}
-use Rattle.lab_rules.specs.Ports.{clk, ena, sclr, sload, used, counted, clock, clockPair, clear, pair, inUse, needed}
+use Rattle.lab_rules.specs.Ports.{clk, ena, used, counted, clock, clockPair, clear, pair, inUse, fixed, pairInUse, synchronous, needed}
 use Rattle.lab_rules.specs.Rules.{needsOfRole}
-use Rattle.lab_rules.specs.passes.Counts.{countsWith, netCodes, onlyCode, brokenBy, withNeeds, needsHeld, routedResult, resultFrom}
+use Rattle.lab_rules.specs.passes.Counts.{countsWith, netCodes, onlyCode, first, second, brokenBy, withNeeds, needsHeld, routedResult, resultFrom}
+
+-- the codes up to GND's are those of unconnected and GND
+pub past-gnd : (s : ℕ) → ltb 1 s ≡ inUse s
+past-gnd s =
+    by-test (ltb 1 s) (λ h. let g = ltb-true 1 s h in rw (h, ne-eqb s 0 (λ e. omega arith), ne-eqb s 1 (λ e. omega arith)))
+    (λ h. let g = ltb-false 1 s h in by-test (eqb s 0) (λ e. rw (h, e)) (λ e. rw (h, e, eq-eqb s 1 (one g (eqb-false s 0 e)))))
+  where
+    one : s ≤ 1 → (s ≡ 0 → ⊥) → s ≡ 1
+    one g n = omega arith
 
 -- ---- counters
 pub with-cond : (d : UpToTwo) (b : Bool) (xs ys : List ℕ) → withCodes d (cond b xs ys) ≡ cond b (withCodes d xs) (withCodes d ys)
@@ -63,17 +73,26 @@ module _ (d : UpToTwo) (r : RegisterCell) {e : ℕ} (q : e ≡ cond (connected (
     unfolding withCodes clockPair
     pair-of-none n = rw (c, counted-not clk default r v k f n) refl
 
+-- the (sload, sclr) pair of a cell: it uses one of them, or neither
+module _ (d : UpToTwo) (load clear : ℕ) {a b : Bool} (p : a ≡ inUse load) (q : b ≡ inUse clear) where
+  pub pair-used : {x y n : ℕ} {l : UpToTwo} → a || b ≡ true → x ≡ fixed load → y ≡ fixed clear → n ≡ pair x y → l ≡ withCode d n → l ≡ withCodes d (pairInUse load clear)
+  unfolding withCodes pairInUse
+  pair-used t e f h g = rw (← e, ← f, ← h, ← p, ← q, t) g
+
+  pub pair-unused : a || b ≡ false → d ≡ withCodes d (pairInUse load clear)
+  unfolding withCodes pairInUse
+  pair-unused n = rw (← p, ← q, n) refl
+
 -- each counter takes what its own port gives
-module _ (k : Counts) (r : RegisterCell) {a b d s l e : UpToTwo} where
+module _ (k : Counts) (r : RegisterCell) {a b d s e : UpToTwo} where
   pub register-counted : a ≡ withCodes (k .clocks) (clock r)
       → b ≡ withCodes (k .pairs) (clockPair r)
       → d ≡ withCodes (k .clears) (clear r)
-      → s ≡ withCodes (k .«sync_clears») (inUse sclr r)
-      → l ≡ withCodes (k .«sync_loads») (inUse sload r)
+      → s ≡ withCodes (k .synchronous) (synchronous r)
       → e ≡ withCodes (k .enables) (needed ena r)
-      → _≡_ {A = Counts} (record { clocks = a; pairs = b; clears = d; «sync_clears» = s; «sync_loads» = l; enables = e }) (countsWith k (Register r))
+      → _≡_ {A = Counts} (record { clocks = a; pairs = b; clears = d; synchronous = s; enables = e }) (countsWith k (Register r))
   unfolding countsWith
-  register-counted h₁ h₂ h₃ h₄ h₅ h₆ = rw (h₁, h₂, h₃, h₄, h₅, h₆) refl
+  register-counted h₁ h₂ h₃ h₄ h₅ = rw (h₁, h₂, h₃, h₄, h₅) refl
 
 -- to a cell that is no register nothing counts
 pub no-register : (k : Counts) (c : Record) → (tagOf the-type c ≡ 0) ⊎ (tagOf the-type c ≡ 2) → k ≡ countsWith k c
@@ -108,9 +127,9 @@ codes-length d =
     (λ e. rw e (by-test (eqb (d .count) 1) (λ f. rw f (omega arith))
     (λ f. rw f (by-test (eqb (d .count) 2) (λ g. rw g (omega arith)) (λ g. rw g (omega arith))))))
 
-only-length : (d : UpToTwo) → length (onlyCode d) ≤ 1
+only-length : (half : ℕ → ℕ) (d : UpToTwo) → length (map half (onlyCode d)) ≤ 1
 unfolding onlyCode
-only-length d = by-test (eqb (d .count) 1) (λ e. rw e (omega arith)) (λ e. rw e (omega arith))
+only-length half d = by-test (eqb (d .count) 1) (λ e. rw e (omega arith)) (λ e. rw e (omega arith))
 
 pub held-fits : (k : Counts) → length (needsHeld k) ≤ 8
 unfolding needsHeld
@@ -124,26 +143,25 @@ held-fits k =
       codes-length (k .enables),
       role-length 2 (codesOf (k .clears)),
       codes-length (k .clears),
-      role-length 3 (onlyCode (k .«sync_clears»)),
-      only-length (k .«sync_clears»),
-      role-length 4 (onlyCode (k .«sync_loads»)),
-      only-length (k .«sync_loads»),
+      role-length 3 (map second (onlyCode (k .synchronous))),
+      role-length 4 (map first (onlyCode (k .synchronous))),
+      only-length second (k .synchronous),
+      only-length first (k .synchronous),
     ))
 
 held-of : (k : Counts) → withNeeds noNeeds (needsHeld k) ≡ needsOf (needsHeld k)
 held-of k = rw no-needs-of (needs-of [] (needsHeld k) (omega (arith, held-fits k)))
 
 -- the needs of each role after those of the roles before it
-module _ (k : Counts) {n₀ n₁ n₂ n₃ n₄ n₅ : Needs} where
+module _ (k : Counts) {n₀ n₁ n₂ n₃ n₄ : Needs} where
   pub needs-are : n₀ ≡ noNeeds
       → n₁ ≡ withNeeds n₀ (needsOfRole CLK (netCodes (codesOf (k .clocks))))
       → n₂ ≡ withNeeds n₁ (needsOfRole ENA (netCodes (codesOf (k .enables))))
       → n₃ ≡ withNeeds n₂ (needsOfRole ACLR (netCodes (codesOf (k .clears))))
-      → n₄ ≡ withNeeds n₃ (needsOfRole SCLR (netCodes (onlyCode (k .«sync_clears»))))
-      → n₅ ≡ withNeeds n₄ (needsOfRole SLOAD (netCodes (onlyCode (k .«sync_loads»))))
-      → n₅ ≡ needsOf (needsHeld k)
+      → n₄ ≡ withNeeds (withNeeds n₃ (needsOfRole SCLR (netCodes (map second (onlyCode (k .synchronous)))))) (needsOfRole SLOAD (netCodes (map first (onlyCode (k .synchronous)))))
+      → n₄ ≡ needsOf (needsHeld k)
   unfolding needsHeld
-  needs-are h₀ h₁ h₂ h₃ h₄ h₅ = rw (← held-of k) (simp needs-append (rw (h₅, h₄, h₃, h₂, h₁, h₀) refl))
+  needs-are h₀ h₁ h₂ h₃ h₄ = rw (← held-of k) (simp needs-append (rw (h₄, h₃, h₂, h₁, h₀) refl))
 
 -- where no rule of 60 to 64 is broken, the route of the needs that are held decides
 pub held-result : (t : Table) (k : Counts) (nets : ℕ) (n : Needs) {r : LabRoute} → brokenBy k nets ≡ 0 → n ≡ needsOf (needsHeld k) → r ≡ labRouteOf (needList n) (earliestWay t (needList n)) → resultFrom t k nets ≡ routedResult r

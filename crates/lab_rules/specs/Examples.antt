@@ -1,4 +1,5 @@
--- Document 01, "Settled examples": P1 to P12 as one list of claims about the cells of a LAB on the house board. Assumes nothing.
+-- Document 01, "Settled examples": P1 to P12 as one list of claims about the cells of a LAB on the house board; and the six lines of source 000,
+-- table 4. Assumes nothing.
 use Prim.Native.Nat.{ℕ}
 use mathlib.Core.Path.{_≡_}
 use mathlib.Core.List.{List, [], _∷_}
@@ -64,17 +65,23 @@ other = register 24
 abbrev pub two : ℕ → ℕ → ℕ → ℕ → List Record
 two c₁ e₁ c₂ e₂ = one c₁ e₁ - - - ∷ other c₂ e₂ - - - ∷ []
 
+-- two registers with these sload and sclr
+abbrev pub synchronousTwo : ℕ → ℕ → ℕ → ℕ → List Record
+synchronousTwo l₁ c₁ l₂ c₂ = one D - - c₁ l₁ ∷ other D - - c₂ l₂ ∷ []
+
 -- what an example says: the (clk, ena) pair of each register in turn, and the number of pairs; or a LAB's number of needs, its verdict and the
--- entries of its earliest way in need order; or the board's number of entries
+-- entries of its earliest way in need order; or the board's number of entries; or a LAB's verdict
 pub data Claim : Type 0 where
   pairs : List Record → List ℕ → ℕ → Claim
   route : List Record → ℕ → ℕ → Option (List ℕ) → Claim
   entries : ℕ → Claim
+  verdict : List Record → ℕ → Claim
 
 abbrev pub Holds : Claim → Type 0
 Holds (pairs cs ps n) = (inLab clockPair cs ≡ ps) × (distinct (inLab clockPair cs) ≡ n)
 Holds (route cs k n w) = (length (needs cs) ≡ k) × (labNumber houseBoard cs ≡ n) × (earliestWay houseBoard (needs cs) ≡ w)
 Holds (entries n) = length houseBoard ≡ n
+Holds (verdict cs n) = labNumber houseBoard cs ≡ n
 
 abbrev pub examples : List Claim
 examples =
@@ -96,3 +103,22 @@ examples =
 -- the twelve together
 unfoldable pub Settled : Type 0
 Settled = Every Holds examples
+
+-- source 000, table 4: .sload and .sclr of LE #1, then of LE #2; each "Unconnect or GND" is both
+abbrev pub table4 : List Claim
+table4 =
+    verdict (synchronousTwo A B A B) 0  -- line 1: legal
+    ∷ verdict (synchronousTwo A B A C) 63  -- line 2: illegal
+    ∷ verdict (synchronousTwo A B B A) 63  -- line 3: illegal
+    ∷ verdict (synchronousTwo A B - -) 0  -- line 4: legal
+    ∷ verdict (synchronousTwo A B - GND) 0
+    ∷ verdict (synchronousTwo A B GND -) 0
+    ∷ verdict (synchronousTwo A B GND GND) 0
+    ∷ verdict (synchronousTwo A B A -) 63  -- line 5: illegal
+    ∷ verdict (synchronousTwo A B A GND) 63
+    ∷ verdict (synchronousTwo A B - B) 63  -- line 6: illegal
+    ∷ verdict (synchronousTwo A B GND B) 63
+    ∷ []
+
+unfoldable pub Table4 : Type 0
+Table4 = Every Holds table4

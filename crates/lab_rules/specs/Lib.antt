@@ -1,4 +1,5 @@
 pub mod Ports
 pub mod Rules
+pub mod Stricter
 pub mod Examples
 pub mod passes

@@ -1,7 +1,7 @@
 -- Document 01, "LAB-wide signals (001, 8.2)": which ports of a LAB's cells count, and as what. `cs` are the cells of one LAB.
 -- Assumes nothing.
 use Prim.Native.Nat.{ℕ, _+_, _*_}
-use mathlib.Core.Bool.{Bool, cond, _||_}
+use mathlib.Core.Bool.{Bool, cond, not, _||_}
 use mathlib.Core.List.{List, [], _∷_, map}
 use lib.Dec.{eqb}
 use Rattle.sheet.specs.Lists.{concatMap}
@@ -51,8 +51,19 @@ unfoldable pub clockPair : RegisterCell → List ℕ
 clockPair r = map (λ c. pair c (cond (connected (ena r)) (ena r) VCC)) (clock r)
 
 -- at sclr and sload "unconnected and GND aren't in use (000, table 3); VCC is"
-unfoldable pub inUse : (RegisterCell → ℕ) → RegisterCell → List ℕ
-inUse port r = cond (eqb (port r) UNCONNECTED || eqb (port r) GND) [] (port r ∷ [])
+abbrev pub inUse : ℕ → Bool
+inUse s = not (eqb s UNCONNECTED || eqb s GND)
+
+-- M-101: "A cell that uses either port fixes the other too, at GND when it is open or GND"
+abbrev pub fixed : ℕ → ℕ
+fixed s = cond (inUse s) s GND
+
+-- the (sload, sclr) pair of a cell with these codes, where it "uses at least one of them"
+unfoldable pub pairInUse : ℕ → ℕ → List ℕ
+pairInUse load clear = cond (inUse load || inUse clear) (pair (fixed load) (fixed clear) ∷ []) []
+
+abbrev pub synchronous : RegisterCell → List ℕ
+synchronous r = pairInUse (sload r) (sclr r)
 
 -- a net in either polarity: "constants need no entry"
 unfoldable pub needed : (RegisterCell → ℕ) → RegisterCell → List ℕ

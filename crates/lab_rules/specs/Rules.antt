@@ -1,7 +1,7 @@
 -- Document 01, rules 60 to 65 of one LAB, and its needs. Each rule is true where its line is. `cs` are the LAB's cells, `t` is the entry table.
 -- Assumes nothing.
 use Prim.Native.Nat.{ℕ}
-use mathlib.Core.Bool.{Bool, true, false, cond, _||_}
+use mathlib.Core.Bool.{Bool, true, false, cond}
 use mathlib.Core.List.{List, [], _∷_, _++_, map}
 use mathlib.Core.Option.{Option, none, some}
 use lib.ListN.{length, replicate}
@@ -16,7 +16,7 @@ use Rattle.route.specs.Way.{earliestWay}
 use Rattle.route.specs.Route.{labRouteOf}
 use Rattle.lab_nets.specs.NetsIn.{netsIn}
 use Rattle.lab_rules.specs.declared.LabResult.{LabResult}
-use Rattle.lab_rules.specs.Ports.{clk, ena, aclr, sclr, sload, clock, clockPair, clear, inUse, needed, inLab}
+use Rattle.lab_rules.specs.Ports.{clk, ena, aclr, sclr, sload, clock, clockPair, clear, synchronous, needed, inLab}
 
 -- 60: "more than 2 distinct clk signals"
 unfoldable pub tooManyClocks : List Record → Bool
@@ -30,9 +30,9 @@ tooManyPairs cs = ltb 2 (distinct (inLab clockPair cs))
 unfoldable pub tooManyClears : List Record → Bool
 tooManyClears cs = ltb 2 (distinct (inLab clear cs))
 
--- 63: "more than 1 distinct sclr, or more than 1 distinct sload"
+-- 63, as M-101 has it: "more than one distinct (sload, sclr) pair among registers that use at least one of them"
 unfoldable pub tooManySynchronous : List Record → Bool
-tooManySynchronous cs = ltb 1 (distinct (inLab (inUse sclr) cs)) || ltb 1 (distinct (inLab (inUse sload) cs))
+tooManySynchronous cs = ltb 1 (distinct (inLab synchronous cs))
 
 -- "more than 38 distinct nets"
 abbrev pub MAX_NETS_IN : ℕ

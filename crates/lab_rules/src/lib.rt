@@ -6,28 +6,26 @@ use route::Need;
 use route::Needs;
 use sheet::Signal;
 ghost use mathlib.Core.Path.{_≡_};
-ghost use mathlib.Core.Bool.{cond, _||_};
-ghost use mathlib.Core.List.{[], _∷_};
-ghost use lib.Dec.{eqb};
-ghost use Rattle.sheet.specs.Signal.{UNCONNECTED, GND, VCC, connected, isNet};
+ghost use mathlib.Core.Bool.{cond};
+ghost use mathlib.Core.List.{[], _∷_, map};
+ghost use Rattle.sheet.specs.Signal.{VCC, connected, isNet};
 ghost use Rattle.exercise.specs.declared.Record.«the-variants».{Register};
 ghost use Rattle.distinct.specs.passes.UpToTwo.{withCodes, codesOf};
-ghost use Rattle.route.specs.Table.{needsOf};
-ghost use Rattle.lab_rules.specs.Ports.{clockPair, pair};
+ghost use Rattle.route.specs.Table.{SCLR, SLOAD, needsOf};
+ghost use Rattle.lab_rules.specs.Ports.{clockPair, pair, inUse, fixed, pairInUse};
 ghost use Rattle.lab_rules.specs.Rules.{needsOfRole};
-ghost use Rattle.lab_rules.specs.passes.Counts.{noCounts, countsWith, brokenBy, netCodes, onlyCode, withNeeds, needsHeld, resultFrom};
+ghost use Rattle.lab_rules.specs.passes.Counts.{noCounts, countsWith, brokenBy, netCodes, onlyCode, first, second, withNeeds, needsHeld, resultFrom};
 
 // Rule 64: more nets than this break it.
 pub const MAX_NETS_IN: u16 = 38;
 
 // The control signals of a LAB's registers, distinct, as far as rules 60 to 63 and the needs ask for them.
-// A pair is 65536 * clk + ena; enables are the ena signals that are nets.
+// A pair is 65536 * clk + ena, a synchronous one 65536 * sload + sclr; enables are the ena signals that are nets.
 pub struct Counts {
     pub clocks: UpToTwo,
     pub pairs: UpToTwo,
     pub clears: UpToTwo,
-    pub sync_clears: UpToTwo,
-    pub sync_loads: UpToTwo,
+    pub synchronous: UpToTwo,
     pub enables: UpToTwo,
 }
 
@@ -75,22 +73,39 @@ fn enable_or_vcc(ena: Signal) -> Signal
 }
 
 // A pair of signals as one code.
-fn pair(clk: Signal, ena: Signal) -> u32
-    ensures { λ r. ⌜ r ≡ pair (clk .0) (ena .0) ⌝ }
+fn pair(high: Signal, low: Signal) -> u32
+    ensures { λ r. ⌜ r ≡ pair (high .0) (low .0) ⌝ }
 {
-    65536 * (clk.0 as u32) + (ena.0 as u32)
+    65536 * (high.0 as u32) + (low.0 as u32)
 }
 
-// A synchronous port's signal where it is in use: neither unconnected nor GND.
-fn with_in_use(codes: UpToTwo, signal: Signal) -> UpToTwo
-    ensures { λ r. ⌜ r ≡ withCodes codes (cond (eqb (signal .0) UNCONNECTED || eqb (signal .0) GND) [] (signal .0 ∷ [])) ⌝ }
+// At sclr and sload every signal past unconnected and GND is in use.
+fn is_in_use(signal: Signal) -> bool
+    ensures { λ r. ⌜ r ≡ inUse (signal .0) ⌝ }
 {
-    let unconnected = signal.0 == Signal::UNCONNECTED.0;
-    let ground = signal.0 == Signal::GND.0;
-    if unconnected | ground {
-        return codes;
+    signal.0 > Signal::GND.0
+}
+
+// At which signal a cell that uses sclr or sload fixes one of them.
+fn used_or_gnd(signal: Signal) -> Signal
+    ensures { λ r. ⌜ r .0 ≡ fixed (signal .0) ⌝ }
+{
+    if is_in_use(signal) {
+        return signal;
     }
-    codes.with(signal.0 as u32)
+    Signal::GND
+}
+
+// The (sload, sclr) pair of a cell that uses one of them.
+fn with_synchronous(codes: UpToTwo, sload: Signal, sclr: Signal) -> UpToTwo
+    ensures { λ r. ⌜ r ≡ withCodes codes (pairInUse (sload .0) (sclr .0)) ⌝ }
+{
+    let loads = is_in_use(sload);
+    let clears = is_in_use(sclr);
+    if loads | clears {
+        return codes.with(pair(used_or_gnd(sload), used_or_gnd(sclr)));
+    }
+    codes
 }
 
 // A signal that is a net.
@@ -112,8 +127,7 @@ impl Counts {
             clocks: none,
             pairs: none,
             clears: none,
-            sync_clears: none,
-            sync_loads: none,
+            synchronous: none,
             enables: none,
         }
     }
@@ -135,15 +149,13 @@ impl Counts {
         let clocks = with_counted(self.clocks, cell.clk, Signal::GND, used);
         let pairs = with_pair(self.pairs, cell);
         let clears = with_counted(self.clears, cell.aclr, Signal::GND, used);
-        let sync_clears = with_in_use(self.sync_clears, cell.sclr);
-        let sync_loads = with_in_use(self.sync_loads, cell.sload);
+        let synchronous = with_synchronous(self.synchronous, cell.sload, cell.sclr);
         let enables = with_net(self.enables, cell.ena);
         Counts {
             clocks,
             pairs,
             clears,
-            sync_clears,
-            sync_loads,
+            synchronous,
             enables,
         }
     }
@@ -162,9 +174,7 @@ fn broken_by(counts: Counts, nets: u16) -> u8
     if 2 < counts.clears.count {
         return 62;
     }
-    let clears = 1 < counts.sync_clears.count;
-    let loads = 1 < counts.sync_loads.count;
-    if clears | loads {
+    if 1 < counts.synchronous.count {
         return 63;
     }
     if MAX_NETS_IN < nets {
@@ -203,12 +213,14 @@ fn with_codes(needs: Needs, role: u8, codes: UpToTwo) -> Needs
     needs
 }
 
-// A need of the role for the one code that a counter holds.
-fn with_only(needs: Needs, role: u8, codes: UpToTwo) -> Needs
-    ensures { λ r. ⌜ r ≡ withNeeds needs (needsOfRole role (netCodes (onlyCode codes))) ⌝ }
+// Needs of sclr and sload for the one pair that a counter holds.
+fn with_only(needs: Needs, pairs: UpToTwo) -> Needs
+    ensures { λ r.
+        ⌜ r ≡ withNeeds (withNeeds needs (needsOfRole SCLR (netCodes (map second (onlyCode pairs))))) (needsOfRole SLOAD (netCodes (map first (onlyCode pairs)))) ⌝ }
 {
-    if codes.count == 1 {
-        return with_code(needs, role, codes.low);
+    if pairs.count == 1 {
+        let sclr = with_code(needs, 3, pairs.low % 65536);
+        return with_code(sclr, 4, pairs.low / 65536);
     }
     needs
 }
@@ -220,8 +232,7 @@ pub fn needs_held(counts: Counts) -> Needs
     let clk = with_codes(Needs::none(), 0, counts.clocks);
     let ena = with_codes(clk, 1, counts.enables);
     let aclr = with_codes(ena, 2, counts.clears);
-    let sclr = with_only(aclr, 3, counts.sync_clears);
-    with_only(sclr, 4, counts.sync_loads)
+    with_only(aclr, counts.synchronous)
 }
 
 // The result of a LAB with these counts and so many nets in, on a board with this entry table.

@@ -4,7 +4,7 @@ use mathlib.Core.Path.{_≡_, refl}
 use mathlib.Core.List.{List, [], _∷_, _++_}
 use Rattle.sheet.specs.Lists.{concatMap}
 use Rattle.judge.specs.Judge.{carryNotNext, labCells, occupied, roomChecks, exerciseGroup, answerGroup, cellGroup, placeGroup, labGroup, sheetChecks, checksTo51, checks, apprenticeOf, verdictOf, judged}
-use Rattle.lab_rules.specs.Ports.{counted, clockPair, inUse, needed, inLab}
+use Rattle.lab_rules.specs.Ports.{counted, clockPair, pairInUse, needed, inLab}
 use Rattle.lab_nets.specs.NetsIn.{inputs, netsIn}
 use Rattle.lab_rules.specs.Rules.{tooManyClocks, tooManyPairs, tooManyClears, tooManySynchronous, tooManyNets, needs, noWay, routeOf}
 use Rattle.lab_pass.specs.Members.{members}
@@ -44,7 +44,7 @@ pub listing-example : listing exercise answer
     ≡ ascii "verdict 0 cell - lab - apprentice 7\n"
     ++ ascii "lab 34 clk 0 - ena - - aclr 1 - sclr - sload -\n"
 unfolding carryNotNext labCells occupied roomChecks exerciseGroup answerGroup cellGroup placeGroup labGroup sheetChecks checksTo51 checks apprenticeOf
-    verdictOf judged counted clockPair inUse needed inLab inputs netsIn tooManyClocks tooManyPairs tooManyClears tooManySynchronous
+    verdictOf judged counted clockPair pairInUse needed inLab inputs netsIn tooManyClocks tooManyPairs tooManyClears tooManySynchronous
     tooManyNets needs noWay routeOf members cell malformed driven doubleDriver feeds carryInNotFed carryOutNotReadOnce cellChecks labAt
     outOfRangeAt samePlace placeTaken earliestWay ways entryLists isWay eightBytes labRouteOf houseBoard wrongAnswerLength placedOf placedAt
     wrongMark wrongVersion overLimit wrongExerciseLength badCombinational badRegister badTail keepsCombinational keepsRegister recordOf

@@ -1,4 +1,4 @@
--- The six counters are those of the definition.
+-- The five counters are those of the definition.
 use Rattle.lab_pass.specs.passes.Results.{sameCounts}
 use borrow.Author.Needs.{needs}
 use Rattle.lab_pass.proofs.same_counts.Statement.{statement}
@@ -14,13 +14,11 @@ same-counts-spec =
     (λ c κs. search needs)  -- same-codes-requires-3
     (λ c κs. search needs)  -- same-codes-requires-4
     (λ c κs. search needs)  -- same-codes-requires-5
-    (λ c κs. search needs)  -- same-codes-requires-6
     (λ c.
-    let l = c .before .before .before in
+    let l = c .before .before in
     rw (
-      c .same-codes6 .ensures,
-      c .before .same-codes5 .ensures,
-      c .before .before .same-codes4 .ensures,
+      c .same-codes5 .ensures,
+      c .before .same-codes4 .ensures,
       l .same-codes3 .ensures,
       l .before .same-codes2 .ensures,
       l .before .before .same-codes .ensures,

@@ -40,7 +40,7 @@ sameCodes a b = eqb (a .count) (b .count) && eqb (a .low) (b .low) && eqb (a .hi
 unfoldable pub sameCounts : Counts → Counts → Bool
 sameCounts a b =
     sameCodes (a .clocks) (b .clocks) && sameCodes (a .pairs) (b .pairs) && sameCodes (a .clears) (b .clears)
-    && sameCodes (a .«sync_clears») (b .«sync_clears») && sameCodes (a .«sync_loads») (b .«sync_loads») && sameCodes (a .enables) (b .enables)
+    && sameCodes (a .synchronous) (b .synchronous) && sameCodes (a .enables) (b .enables)
 
 unfoldable pub sameCounted : Counted → Counted → Bool
 sameCounted a b = sameCounts (a .counts) (b .counts) && eqb (a .nets) (b .nets)

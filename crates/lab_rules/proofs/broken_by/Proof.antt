@@ -18,26 +18,28 @@ broken-by-spec =
     let b = c .before .before in
     rw (le-ltb _ _ (b .before .before .if1 .left), le-ltb _ _ (b .if2 .left), lt-ltb _ _ (c .if3 .taken)) refl)  -- returns-3
     (λ c.
-    let d = c .before .before .before in
+    let d = c .before .before in
     let b = d .before .before in
-    rw (le-ltb _ _ (b .before .before .if1 .left), le-ltb _ _ (b .if2 .left), le-ltb _ _ (d .if3 .left), c .if4 .taken) refl)  -- returns-4
+    rw (le-ltb _ _ (b .before .before .if1 .left), le-ltb _ _ (b .if2 .left), le-ltb _ _ (d .if3 .left), lt-ltb _ _ (c .if4 .taken)) refl)  -- returns-4
     (λ c.
-    let d = c .before .before .before .before in
+    let e = c .before in
+    let d = e .before .before in
     let b = d .before .before in
     rw (
       le-ltb _ _ (b .before .before .if1 .left),
       le-ltb _ _ (b .if2 .left),
       le-ltb _ _ (d .if3 .left),
-      c .before .if4 .left,
+      le-ltb _ _ (e .if4 .left),
       lt-ltb MAX_NETS_IN _ (c .if5 .taken),
     ) refl)  -- returns-5
     (λ c.
-    let d = c .before .before .before .before in
+    let e = c .before in
+    let d = e .before .before in
     let b = d .before .before in
     rw (
       le-ltb _ _ (b .before .before .if1 .left),
       le-ltb _ _ (b .if2 .left),
       le-ltb _ _ (d .if3 .left),
-      c .before .if4 .left,
+      le-ltb _ _ (e .if4 .left),
       le-ltb MAX_NETS_IN _ (c .if5 .left),
     ) refl))  -- returns-6

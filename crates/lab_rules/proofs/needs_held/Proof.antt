@@ -14,9 +14,8 @@ needs-held-spec =
     (λ c κs. search needs)  -- with-codes-requires-2
     (λ c κs. search needs)  -- with-codes-requires-3
     (λ c κs. search needs)  -- with-only-requires
-    (λ c κs. search needs)  -- with-only-requires-2
     (λ c.
-    let a = c .before .before in
+    let a = c .before in
     let l = a .before .before in
     needs-are (l .before .before .args .counts) (l .before .none .ensures) (l .with-codes .ensures) (a .before .with-codes2 .ensures) (a .with-codes3 .ensures)
-    (c .before .with-only .ensures) (c .with-only2 .ensures)))  -- returns
+    (c .with-only .ensures)))  -- returns

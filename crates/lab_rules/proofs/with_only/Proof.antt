@@ -1,4 +1,4 @@
--- `lab_rules::with_only` meets its contract: the counter holds one code where its count is 1.
+-- `lab_rules::with_only` meets its contract: the counter holds one pair where its count is 1.
 -- Assumes nothing.
 use borrow.Author.Tests.{ne-eqb}
 use borrow.Author.Needs.{needs}
@@ -12,5 +12,8 @@ with-only-spec =
     tie.close
     (tie.spec
     (λ c κs. search needs)  -- with-code-requires
-    (λ c. rw (c .before .if1 .taken) (c .with-code .ensures))  -- returns
+    (λ c κs. search needs)  -- with-code-requires-2
+    (λ c.
+    let s = c .before .before in
+    rw (s .before .before .if1 .taken, ← s .with-code .ensures) (c .with-code2 .ensures))  -- returns
     (λ c. rw (ne-eqb _ _ (c .if1 .left))))  -- returns-2

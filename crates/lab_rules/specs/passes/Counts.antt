@@ -1,8 +1,8 @@
 -- What is kept of a LAB's cells while they are handed over one by one, and what follows from it. Assumes nothing.
-use Prim.Native.Nat.{ℕ, _<_}
+use Prim.Native.Nat.{ℕ, _/_, _%_, _<_}
 use mathlib.Core.Path.{_≡_}
-use mathlib.Core.Bool.{true, cond, _&&_, _||_}
-use mathlib.Core.List.{List, [], _∷_, _++_}
+use mathlib.Core.Bool.{true, cond, _&&_}
+use mathlib.Core.List.{List, [], _∷_, _++_, map}
 use lib.ListN.{replicate}
 use lib.Dec.{eqb, ltb}
 use Rattle.sheet.specs.Lists.{filterb, Every, elemb}
@@ -24,11 +24,11 @@ use Rattle.route.specs.Route.{labRouteOf}
 use Rattle.lab_nets.specs.NetsIn.{inputs}
 use Rattle.lab_rules.specs.declared.Counts.{Counts}
 use Rattle.lab_rules.specs.declared.LabResult.{LabResult}
-use Rattle.lab_rules.specs.Ports.{clk, ena, sclr, sload, clock, clockPair, clear, inUse, needed, ofRegister, inLab}
+use Rattle.lab_rules.specs.Ports.{clk, ena, clock, clockPair, clear, synchronous, needed, ofRegister, inLab}
 use Rattle.lab_rules.specs.Rules.{MAX_NETS_IN, needsOfRole}
 
 abbrev pub noCounts : Counts
-noCounts = record { clocks = noCode; pairs = noCode; clears = noCode; «sync_clears» = noCode; «sync_loads» = noCode; enables = noCode }
+noCounts = record { clocks = noCode; pairs = noCode; clears = noCode; synchronous = noCode; enables = noCode }
 
 -- one cell more
 unfoldable pub countsWith : Counts → Record → Counts
@@ -36,8 +36,7 @@ countsWith k c = record {
   clocks = withCodes (k .clocks) (ofRegister clock c);
   pairs = withCodes (k .pairs) (ofRegister clockPair c);
   clears = withCodes (k .clears) (ofRegister clear c);
-  «sync_clears» = withCodes (k .«sync_clears») (ofRegister (inUse sclr) c);
-  «sync_loads» = withCodes (k .«sync_loads») (ofRegister (inUse sload) c);
+  synchronous = withCodes (k .synchronous) (ofRegister synchronous c);
   enables = withCodes (k .enables) (ofRegister (needed ena) c);
 }
 
@@ -52,8 +51,7 @@ countsOf cs = record {
   clocks = upToTwo (rising (inLab clock cs));
   pairs = upToTwo (rising (inLab clockPair cs));
   clears = upToTwo (rising (inLab clear cs));
-  «sync_clears» = upToTwo (rising (inLab (inUse sclr) cs));
-  «sync_loads» = upToTwo (rising (inLab (inUse sload) cs));
+  synchronous = upToTwo (rising (inLab synchronous cs));
   enables = upToTwo (rising (inLab (needed ena) cs));
 }
 
@@ -64,7 +62,7 @@ brokenBy k nets =
     (check 60 (ltb 2 (k .clocks .count))
     ∷ check 61 (ltb 2 (k .pairs .count))
     ∷ check 62 (ltb 2 (k .clears .count))
-    ∷ check 63 (ltb 1 (k .«sync_clears» .count) || ltb 1 (k .«sync_loads» .count))
+    ∷ check 63 (ltb 1 (k .synchronous .count))
     ∷ check 64 (ltb MAX_NETS_IN nets)
     ∷ [])
 
@@ -76,14 +74,21 @@ netCodes codes = filterb (λ s. isNet s && ltb s 65536) codes
 unfoldable pub onlyCode : UpToTwo → List ℕ
 onlyCode d = cond (eqb (d .count) 1) (d .low ∷ []) []
 
+-- the codes of a pair
+abbrev pub first : ℕ → ℕ
+first p = p / 65536
+
+abbrev pub second : ℕ → ℕ
+second p = p % 65536
+
 -- the needs that counts hold, two at the most of clk, ena and aclr, one of sclr and sload
 unfoldable pub needsHeld : Counts → List Need
 needsHeld k =
     needsOfRole CLK (netCodes (codesOf (k .clocks)))
     ++ needsOfRole ENA (netCodes (codesOf (k .enables)))
     ++ needsOfRole ACLR (netCodes (codesOf (k .clears)))
-    ++ needsOfRole SCLR (netCodes (onlyCode (k .«sync_clears»)))
-    ++ needsOfRole SLOAD (netCodes (onlyCode (k .«sync_loads»)))
+    ++ needsOfRole SCLR (netCodes (map second (onlyCode (k .synchronous))))
+    ++ needsOfRole SLOAD (netCodes (map first (onlyCode (k .synchronous))))
 
 -- needs one after the other
 unfoldable pub withNeeds : Needs → List Need → Needs

@@ -1,4 +1,4 @@
--- `lab_rules::Counts::none` meets its contract: each of its six counters is empty.
+-- `lab_rules::Counts::none` meets its contract: each of its five counters is empty.
 -- Assumes nothing.
 use borrow.Author.Needs.{needs}
 use Rattle.lab_rules.proofs.Counts.none.Statement.{statement}
