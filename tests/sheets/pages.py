@@ -186,7 +186,7 @@ def main():
     sheets_page()
     limits_judged()
     ran = commands("VERDICTS.md") + commands("SAMPLES.md")
-    assert ran >= 8, ran
+    assert ran >= 9, ran
     assert page("SAMPLES.md").endswith("The number in brackets is the verdict.\n\n" + sheets.list_samples())
     counter()
     links()

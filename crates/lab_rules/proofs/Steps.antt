@@ -9,7 +9,7 @@ use denote.Enum.Declared.{tagOf}
 use lib.ListN.{length, length-append, length-map}
 use lib.Dec.{eqb, ltb}
 use borrow.Author.Tests.{ltb-true, ltb-false, eq-eqb, ne-eqb, eqb-false}
-use Rattle.sheet.specs.Signal.{VCC, connected, isNet}
+use Rattle.sheet.specs.Signal.{GND, VCC, connected, isNet}
 use Rattle.exercise.specs.declared.RegisterCell.{RegisterCell}
 use Rattle.exercise.specs.declared.Record.{Record}
 use Rattle.exercise.specs.declared.Record.the-variants.{Combinational, Register, Malformed}
@@ -30,16 +30,16 @@ use Rattle.lab_rules.specs.Ports.{clk, ena, used, counted, clock, clockP
 use Rattle.lab_rules.specs.Rules.{needsOfRole}
 use Rattle.lab_rules.specs.passes.Counts.{countsWith, netCodes, onlyCode, first, second, brokenBy, withNeeds, needsHeld, routedResult, resultFrom}
 
+-- ---- counters
 -- the codes up to GND's are those of unconnected and GND
-pub past-gnd : (s : ℕ) → ltb 1 s ≡ inUse s
+pub past-gnd : (s : ℕ) → ltb GND s ≡ inUse s
 past-gnd s =
-    by-test (ltb 1 s) (λ h. let g = ltb-true 1 s h in rw (h, ne-eqb s 0 (λ e. omega arith), ne-eqb s 1 (λ e. omega arith)))
-    (λ h. let g = ltb-false 1 s h in by-test (eqb s 0) (λ e. rw (h, e)) (λ e. rw (h, e, eq-eqb s 1 (one g (eqb-false s 0 e)))))
+    by-test (ltb GND s) (λ h. let g = ltb-true GND s h in rw (h, ne-eqb s 0 (λ e. omega arith), ne-eqb s GND (λ e. omega arith)))
+    (λ h. let g = ltb-false GND s h in by-test (eqb s 0) (λ e. rw (h, e)) (λ e. rw (h, e, eq-eqb s GND (one g (eqb-false s 0 e)))))
   where
     one : s ≤ 1 → (s ≡ 0 → ⊥) → s ≡ 1
     one g n = omega arith
 
--- ---- counters
 pub with-cond : (d : UpToTwo) (b : Bool) (xs ys : List ℕ) → withCodes d (cond b xs ys) ≡ cond b (withCodes d xs) (withCodes d ys)
 with-cond d true xs ys = refl
 with-cond d false xs ys = refl
