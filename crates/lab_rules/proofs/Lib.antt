@@ -1,5 +1,6 @@
 pub mod Steps
 pub mod Folded
+pub mod InLab
 pub mod Stricter
 pub mod Needed
 pub mod Checks

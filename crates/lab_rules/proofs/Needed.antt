@@ -28,7 +28,8 @@ use Rattle.lab_rules.specs.Ports.{clk, ena, aclr, sclr, sload, used, cou
 use Rattle.lab_rules.specs.Rules.{tooManyClocks, tooManyPairs, tooManyClears, tooManySynchronous, needsOfRole, needs}
 use Rattle.lab_rules.specs.Stricter.{usedAt, tooManyApart, SixteenBits, Stricter}
 use Rattle.lab_rules.specs.passes.Counts.{countsOf, onlyCode, first, second, needsHeld, Fit, AllFit}
-use Rattle.lab_rules.proofs.Stricter.{Half, sclr-half, sload-half, one-half, stricter}
+use Rattle.lab_rules.proofs.InLab.{lab-made}
+use Rattle.lab_rules.proofs.Stricter.{second-of, Half, sclr-half, sload-half, one-half, stricter}
 
 -- ---- lists
 only-held : (l : List ℕ) → length l ≤ 1 → onlyCode (upToTwo l) ≡ l
@@ -94,27 +95,17 @@ nets-among (s ∷ l) =
     by-test (isNet s) (λ n. rw (net-used s (leb-true 4 s n), h)) (λ n. by-test (inUse s) (λ e. rw (e, n, h)) (λ e. rw (e, n, h)))
 
 module _ (f g : RegisterCell → List ℕ) (h : (r : RegisterCell) → Fit (Register r) → filterb netCode (f r) ≡ g r) where
-  nets-lab : (cs : List Record) → AllFit cs → filterb netCode (inLab f cs) ≡ inLab g cs
-  unfolding inLab
-  nets-lab [] fit = refl
-  nets-lab (Register r ∷ cs) fit = filter-append netCode (f r) (inLab f cs) ∙ rw (h r (fit .0), nets-lab cs (fit .1))
-  nets-lab (Combinational c ∷ cs) fit = nets-lab cs (fit .1)
-  nets-lab (Malformed ∷ cs) fit = nets-lab cs (fit .1)
-
   nets-rising : (cs : List Record) → AllFit cs → filterb netCode (rising (inLab f cs)) ≡ rising (inLab g cs)
-  nets-rising cs fit = rising-filter netCode (inLab f cs) ∙ ap rising (nets-lab cs fit)
+  nets-rising cs fit = rising-filter netCode (inLab f cs) ∙ ap rising (lab-made (filterb netCode) refl (filter-append netCode) Fit f g h cs fit)
 
 -- ---- each ena that is a net has a pair of its own
-pair-second : (a s : ℕ) → s < 65536 → s ≡ second (pair a s)
-pair-second a s h = omega arith
-
 ena-pair : (r : RegisterCell) → Fit (Register r) → (z : ℕ) → In z (needed ena r) → (a : ℕ) × In a (clockPair r) × (z ≡ second a)
 unfolding needed clockPair counted
 ena-pair r fit z m =
     by-test (isNet (ena r))
     (λ n. let k : connected (ena r) ≡ true = let g = leb-true 4 (ena r) n in rw (ne-eqb (ena r) 0 (λ e. omega arith)) in
     let e : z ≡ ena r = ⊎-elim (λ q. q) (λ q. absurd q) (rw n at m) in
-    (pair (clk r) (ena r), rw (fit .clocked r refl k, k) (inl refl), e ∙ pair-second (clk r) (ena r) (ports-small r fit .1)))
+    (pair (clk r) (ena r), rw (fit .clocked r refl k, k) (inl refl), e ∙ sym (second-of (clk r) (ena r) (ports-small r fit .1))))
     (λ n. absurd (rw n at m))
 
 ena-pairs : (cs : List Record) → AllFit cs → (z : ℕ) → In z (inLab (needed ena) cs) → (a : ℕ) × In a (inLab clockPair cs) × (z ≡ second a)

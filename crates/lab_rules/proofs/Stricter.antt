@@ -8,7 +8,7 @@ use borrow.Author.Tests.{ltb-false, le-ltb}
 use Rattle.sheet.specs.Lists.{filterb, Every}
 use Rattle.exercise.specs.declared.RegisterCell.{RegisterCell}
 use Rattle.exercise.specs.declared.Record.{Record}
-use Rattle.exercise.specs.declared.Record.the-variants.{Combinational, Register, Malformed}
+use Rattle.exercise.specs.declared.Record.the-variants.{Register}
 use Rattle.sheet.proofs.Laws.{by-test, or-parts}
 use Rattle.sheet.proofs.Lists.{filter-append}
 use Rattle.distinct.specs.Rising.{rising, distinct}
@@ -17,6 +17,7 @@ use Rattle.lab_rules.specs.Ports.{sclr, sload, pair, inUse, fixed, pairI
 use Rattle.lab_rules.specs.Rules.{tooManySynchronous}
 use Rattle.lab_rules.specs.Stricter.{usedAt, tooManyApart, SixteenBits, Stricter}
 use Rattle.lab_rules.specs.passes.Counts.{first, second}
+use Rattle.lab_rules.proofs.InLab.{lab-made}
 
 -- ---- one register
 fixed-used : (s : ℕ) → filterb inUse (fixed s ∷ []) ≡ cond (inUse s) (s ∷ []) []
@@ -28,7 +29,7 @@ fixed-small s h = by-test (inUse s) (λ e. rw e h) (λ e. rw e (omega arith))
 first-of : (a b : ℕ) → b < 65536 → first (pair a b) ≡ a
 first-of a b h = omega arith
 
-second-of : (a b : ℕ) → b < 65536 → second (pair a b) ≡ b
+pub second-of : (a b : ℕ) → b < 65536 → second (pair a b) ≡ b
 second-of a b h = omega arith
 
 -- `half` of a register's pair tells what is in use at `port`
@@ -55,14 +56,10 @@ sload-half r s =
 -- ---- the registers of a LAB
 module _ (half : ℕ → ℕ) (port : RegisterCell → ℕ) (h : Half half port) where
   lab-half : (cs : List Record) → Every SixteenBits cs → filterb inUse (map half (inLab synchronous cs)) ≡ inLab (usedAt port) cs
-  unfolding inLab
-  lab-half [] s = refl
-  lab-half (Register r ∷ cs) s =
-      ap (filterb inUse) (map-append half (synchronous r) (inLab synchronous cs))
-      ∙ filter-append inUse (map half (synchronous r)) (map half (inLab synchronous cs))
-      ∙ rw (h r (s .0), lab-half cs (s .1))
-  lab-half (Combinational c ∷ cs) s = lab-half cs (s .1)
-  lab-half (Malformed ∷ cs) s = lab-half cs (s .1)
+  lab-half =
+      lab-made (λ l. filterb inUse (map half l)) refl
+      (λ xs ys. ap (filterb inUse) (map-append half xs ys) ∙ filter-append inUse (map half xs) (map half ys))
+      SixteenBits synchronous (usedAt port) h
 
   module _ (cs : List Record) (s : Every SixteenBits cs) where
     fewer-used : distinct (inLab (usedAt port) cs) ≤ distinct (inLab synchronous cs)
