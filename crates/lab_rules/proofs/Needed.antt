@@ -29,7 +29,7 @@ use Rattle.lab_rules.specs.Rules.{tooManyClocks, tooManyPairs, tooManyCl
 use Rattle.lab_rules.specs.Stricter.{usedAt, tooManyApart, SixteenBits, Stricter}
 use Rattle.lab_rules.specs.passes.Counts.{countsOf, onlyCode, first, second, needsHeld, Fit, AllFit}
 use Rattle.lab_rules.proofs.InLab.{lab-made}
-use Rattle.lab_rules.proofs.Stricter.{second-of, Half, sclr-half, sload-half, one-half, stricter}
+use Rattle.lab_rules.proofs.Stricter.{second-of, Half, sclr-half, sload-half, one-pair, one-half, stricter}
 
 -- ---- lists
 only-held : (l : List ℕ) → length l ≤ 1 → onlyCode (upToTwo l) ≡ l
@@ -180,10 +180,6 @@ module _ (cs : List Record) where
       unfolding tooManyClears
       clears-two = ltb-false 2 (distinct (inLab clear cs)) h62
 
-      synchronous-one : distinct (inLab synchronous cs) ≤ 1
-      unfolding tooManySynchronous
-      synchronous-one = ltb-false 1 (distinct (inLab synchronous cs)) h63
-
       apart-one : (distinct (inLab (usedAt sclr) cs) ≤ 1) × (distinct (inLab (usedAt sload) cs) ≤ 1)
       unfolding Stricter tooManyApart
       apart-one =
@@ -195,7 +191,7 @@ module _ (cs : List Record) where
           → filterb netCode (map half (rising (inLab synchronous cs))) ≡ rising (inLab (needed port) cs)
       pair-nets half port h n =
           sym (nets-among (map half (rising (inLab synchronous cs))))
-          ∙ ap (filterb netCode) (one-half half port h cs (all-small cs fit) synchronous-one)
+          ∙ ap (filterb netCode) (one-half half port h cs (all-small cs fit) (one-pair cs h63))
           ∙ n
 
       -- 65
@@ -206,7 +202,7 @@ module _ (cs : List Record) where
             codes-held (rising (inLab clock cs)) clocks-two,
             codes-held (rising (inLab (needed ena) cs)) enables-two,
             codes-held (rising (inLab clear cs)) clears-two,
-            only-held (rising (inLab synchronous cs)) synchronous-one,
+            only-held (rising (inLab synchronous cs)) (one-pair cs h63),
             nets-clk,
             nets-ena,
             nets-aclr,

@@ -54,6 +54,10 @@ sload-half r s =
     (λ e. or-parts (inUse (sload r)) (inUse (sclr r)) e .0)
 
 -- ---- the registers of a LAB
+pub one-pair : (cs : List Record) → tooManySynchronous cs ≡ false → distinct (inLab synchronous cs) ≤ 1
+unfolding tooManySynchronous
+one-pair cs h = ltb-false 1 (distinct (inLab synchronous cs)) h
+
 module _ (half : ℕ → ℕ) (port : RegisterCell → ℕ) (h : Half half port) where
   lab-half : (cs : List Record) → Every SixteenBits cs → filterb inUse (map half (inLab synchronous cs)) ≡ inLab (usedAt port) cs
   lab-half =
@@ -77,9 +81,9 @@ module _ (half : ℕ → ℕ) (port : RegisterCell → ℕ) (h : Half half port)
 -- A LAB THAT KEEPS THE RULE KEEPS IT WITH THE PORTS COUNTED APART
 -- 63
 pub stricter : Stricter
-unfolding Stricter tooManySynchronous tooManyApart
+unfolding Stricter tooManyApart
 stricter cs s h =
-    let one = ltb-false 1 (distinct (inLab synchronous cs)) h in
+    let one = one-pair cs h in
     rw (
       le-ltb 1 (distinct (inLab (usedAt sclr) cs)) (omega (arith, fewer-used second sclr sclr-half cs s, one)),
       le-ltb 1 (distinct (inLab (usedAt sload) cs)) (omega (arith, fewer-used first sload sload-half cs s, one)),
