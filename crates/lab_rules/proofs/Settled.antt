@@ -1,4 +1,5 @@
--- The settled examples P1 to P12 hold, and so do the lines of table 4. The verdicts and ways are computed by the search, which finds the earliest way. Assumes nothing.
+-- The settled examples P1 to P12 hold, and so do the lines of table 4. The verdicts and ways are computed by the search, which finds the earliest
+-- way. Assumes nothing.
 use Prim.Native.Nat.{ℕ}
 use mathlib.Core.Path.{_≡_, refl, sym, _∙_}
 use mathlib.Core.List.{List, [], _∷_, _++_}
