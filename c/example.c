@@ -1,23 +1,24 @@
-/* Judges two files and prints the verdict, the culprit and, for a legal answer, the route of every occupied LAB.
+/* Judges two files and prints the verdict, the culprit and, for a legal answer, the route of every occupied LAB. The board is that of the
+ * settings sheet in a third file or, where none is given, that of document 01.
  *
- *     cc -o example c/example.c target/staticlib/libc_api.a && ./example exercise.lxe answer.lxa */
+ *     cc -o example c/example.c target/staticlib/libc_api.a && ./example [--settings settings.lxt] exercise.lxe answer.lxa */
 #include "nurimkkot.h"
 #include "sheet_files.h"
 
 int main(int argc, char **argv)
 {
-    static uint8_t exercise[EXERCISE_ROOM], answer[ANSWER_ROOM], route[NURIMKKOT_ROUTE_SIZE];
+    static uint8_t settings[SETTINGS_ROOM], exercise[EXERCISE_ROOM], answer[ANSWER_ROOM], route[NURIMKKOT_ROUTE_SIZE];
     static uint8_t occupied[1024];
     uint64_t numbers[NURIMKKOT_NUMBERS];
-    size_t exercise_length, answer_length, i;
+    size_t settings_length = read_board(&argc, &argv, settings), exercise_length, answer_length, i;
 
     if (argc != 3) {
-        fprintf(stderr, "usage: example EXERCISE ANSWER\n");
+        fprintf(stderr, "usage: example [--settings SETTINGS] EXERCISE ANSWER\n");
         return 2;
     }
-    exercise_length = read_file(argv[1], exercise, sizeof exercise);
-    answer_length = read_file(argv[2], answer, sizeof answer);
-    nurimkkot_judge(exercise, exercise_length, answer, answer_length, route, sizeof route, numbers);
+    exercise_length = read_file(argv[1], 1, exercise, sizeof exercise);
+    answer_length = read_file(argv[2], 1, answer, sizeof answer);
+    nurimkkot_judge(settings, settings_length, exercise, exercise_length, answer, answer_length, route, sizeof route, numbers);
 
     printf("number %llu\n", (unsigned long long)numbers[NURIMKKOT_NUMBER]);
     printf("cell %llu\n", (unsigned long long)numbers[NURIMKKOT_CELL]);

@@ -1,7 +1,7 @@
-/* Nurimkkot: the judge of FPGA placement exercises, the check of one LAB, the readers and the writers of both sheets, for C.
+/* Nurimkkot: the judge of FPGA placement exercises, the check of one LAB, the readers and the writers of the sheets, for C.
  *
  * Link with libc_api.a, which `rt staticlib c_api` writes to target/staticlib. The archive is for x86-64 Linux, position independent,
- * and calls nothing but memory functions of the C library (memcpy, memset and the like). docs/SHEETS.md has the layout of both sheets.
+ * and calls nothing but memory functions of the C library (memcpy, memset and the like). docs/SHEETS.md has the layout of the sheets.
  *
  * Every function asks this of its pointers:
  *   - a pointer is valid for the length or count that goes with it, or for the array that is declared here;
@@ -9,15 +9,15 @@
  *     (tests/c/null.c), not proved;
  *   - a pointer is aligned for its type. The records in a sheet need not be: copy them, and do not cast `exercise + 9` to
  *     struct nurimkkot_cell *;
- *   - what the call writes (route, numbers, *at, cell, place, sheet, *length) overlaps nothing else that is passed to the same call.
- *     What it only reads may overlap.
+ *   - what the call writes (route, numbers, *at, cell, place, sheet, entries, *length) overlaps nothing else that is passed to the same
+ *     call. What it only reads may overlap.
  * Nothing is asked of the contents: a sheet, a list and *at may hold anything, and a length, count or room may be any, also 0.
  *
  * Every call returns. It allocates nothing and keeps nothing, so threads may call at the same time, where none writes what another
  * uses.
  *
- * Stack: nurimkkot_judge uses less than 48 KiB, nurimkkot_write_exercise less than 16 KiB, nurimkkot_check_lab less than 8 KiB, each
- * reader and nurimkkot_write_answer less than 1 KiB. That is measured, not proved: tests/c/stack.c fails above these figures. */
+ * Stack: nurimkkot_judge uses less than 48 KiB, nurimkkot_write_exercise less than 16 KiB, nurimkkot_check_lab less than 8 KiB, every
+ * other function less than 1 KiB. That is measured, not proved: tests/c/stack.c fails above these figures. */
 #ifndef NURIMKKOT_H
 #define NURIMKKOT_H
 
@@ -37,25 +37,45 @@ extern "C" {
 /* "No need" in a route byte. */
 #define NURIMKKOT_NO_ENTRY 255
 
+/* The settings sheet says which roles each control entry of a LAB serves: docs/SHEETS.md. A call that judges takes one, and judges by
+ * the entries on it. What a settings sheet has at most: entries, and bytes. */
+#define NURIMKKOT_MOST_ENTRIES 8
+#define NURIMKKOT_MOST_SETTINGS 16
+
+/* The roles in an entry's byte of flags. An entry that serves none has 0. */
+enum {
+    NURIMKKOT_CLK = 1,
+    NURIMKKOT_ENA = 2,
+    NURIMKKOT_ACLR = 4,
+    NURIMKKOT_SCLR = 8,
+    NURIMKKOT_SLOAD = 16
+};
+
+/* Writes the settings sheet of the board of document 01: version 1, six entries, 12 bytes. boards/house.lxt has the same. */
+#define NURIMKKOT_HOUSE_SETTINGS 12
+void nurimkkot_house_settings(uint8_t settings[NURIMKKOT_HOUSE_SETTINGS]);
+
 /* What each of the seven numbers is. */
 enum {
     NURIMKKOT_NUMBER,     /* the verdict: 0 is legal, docs/VERDICTS.md lists the others */
     NURIMKKOT_CELL,       /* the cell at fault, or NURIMKKOT_NONE */
     NURIMKKOT_LAB,        /* the LAB at fault (32y + x), or NURIMKKOT_NONE */
-    NURIMKKOT_APPRENTICE, /* the number on the answer sheet; 0 for verdicts 1 to 23 */
+    NURIMKKOT_APPRENTICE, /* the number on the answer sheet; 0 for verdicts 1 to 23 and 70 to 75 */
     NURIMKKOT_SHEET,      /* where the culprit stands: 0 the exercise, 1 the answer */
     NURIMKKOT_START,      /* its first byte */
     NURIMKKOT_LENGTH,     /* its length in bytes */
     NURIMKKOT_NUMBERS     /* how many numbers there are */
 };
 
-/* Judges an exercise sheet and an answer sheet.
+/* Judges an exercise sheet and an answer sheet on the board of a settings sheet.
  *
+ * settings   a sheet that is none gives a verdict of 70 to 75, after 1 and before all others. The board's number changes no verdict.
  * numbers    all seven are written, whatever the verdict.
  * route      where the verdict is 0, all 8,192 bytes are written: for LAB n the eight bytes from 8 * n on are the control entries
  *            of two clk, two ena, two aclr, sclr and sload, NURIMKKOT_NO_ENTRY where there is no need. Where the verdict is another,
  *            not one byte is touched. A buffer that isn't exactly 8,192 bytes long gives verdict 1. */
-void nurimkkot_judge(const uint8_t *exercise, size_t exercise_length,
+void nurimkkot_judge(const uint8_t *settings, size_t settings_length,
+                     const uint8_t *exercise, size_t exercise_length,
                      const uint8_t *answer, size_t answer_length,
                      uint8_t *route, size_t route_length,
                      uint64_t numbers[NURIMKKOT_NUMBERS]);
@@ -68,19 +88,21 @@ struct nurimkkot_cell {
     uint16_t signals[11];
 };
 
-/* The check of one LAB on a list of its cells' records, in any order, as a tablet may make it while an answer is still being placed.
+/* The check of one LAB of a board on a list of its cells' records, in any order, as a tablet may make it while an answer is still being
+ * placed.
  *
  * Returns 18 if the list has over 32 cells, or a record that breaks the layout (at 1,024 nets) or one of rules 30 to 35; otherwise
- * the lowest broken of rules 60 to 65; otherwise 0. All eight bytes of `route` are written: the LAB's route bytes where the number
- * is 0, eight times NURIMKKOT_NO_ENTRY where it is another.
+ * the number of 70 to 75 that applies to the settings sheet; otherwise the lowest broken of rules 60 to 65; otherwise 0. All eight bytes
+ * of `route` are written: the LAB's route bytes where the number is 0, eight times NURIMKKOT_NO_ENTRY where it is another.
  *
- * Beside the judge: for two sheets that pass all rules up to 51, and a list of the records of all cells that the answer puts into
- * one LAB, whatever their order,
+ * Beside the judge: for the same settings sheet, for sheets that pass all rules up to 51 and 70 to 75, and for a list of the records of
+ * all cells that the answer puts into one LAB, whatever their order,
  *   - the number is never 18;
  *   - where nurimkkot_judge names that LAB, its verdict is this number;
  *   - where nurimkkot_judge says legal, this number is 0 and these are the LAB's eight bytes of its route buffer;
  *   - nurimkkot_judge names only the lowest broken LAB: every lower LAB has number 0 here, and of a higher one it says nothing. */
-uint8_t nurimkkot_check_lab(const struct nurimkkot_cell *cells, size_t count, uint8_t route[8]);
+uint8_t nurimkkot_check_lab(const uint8_t *settings, size_t settings_length,
+                            const struct nurimkkot_cell *cells, size_t count, uint8_t route[8]);
 
 /* What nurimkkot_next_cell, nurimkkot_next_place and nurimkkot_next_record say. */
 enum {
@@ -109,9 +131,24 @@ uint8_t nurimkkot_next_place(const uint8_t *answer, size_t length, uint16_t *at,
  * record is given, at the end too, the struct's 24 bytes are zeros: a loop over an array needs one element more than there are cells. */
 uint8_t nurimkkot_next_record(const uint8_t *exercise, size_t length, uint16_t *at, struct nurimkkot_cell *cell);
 
-/* How many bytes a sheet of so many cells has. */
+/* Reads a settings sheet whole. Returns 0, or the number of 70 to 75 that applies. All numbers and all entries are written in every
+ * case, with zeros where the sheet is refused.
+ *
+ * numbers    the version, the board's number (0 in version 1) and how many entries there are.
+ * entries    the roles of each entry, as flags; 0 past the last entry. */
+enum {
+    NURIMKKOT_SETTINGS_VERSION,
+    NURIMKKOT_SETTINGS_BOARD,
+    NURIMKKOT_SETTINGS_ENTRIES,
+    NURIMKKOT_SETTINGS_NUMBERS
+};
+uint8_t nurimkkot_read_settings(const uint8_t *settings, size_t length,
+                                uint16_t numbers[NURIMKKOT_SETTINGS_NUMBERS], uint8_t entries[NURIMKKOT_MOST_ENTRIES]);
+
+/* How many bytes a sheet of so many cells, or a settings sheet of a version and so many entries, has. */
 #define NURIMKKOT_EXERCISE_LENGTH(cells) (9 + 24 * (size_t)(cells))
 #define NURIMKKOT_ANSWER_LENGTH(cells) (11 + 4 * (size_t)(cells))
+#define NURIMKKOT_SETTINGS_LENGTH(version, entries) (((version) == 2 ? 8 : 6) + (size_t)(entries))
 
 /* Writes an exercise sheet of so many nets and these cells into a buffer of `room` bytes. What nurimkkot_next_record read can be
  * written as it is.
@@ -139,6 +176,18 @@ uint8_t nurimkkot_write_exercise(uint16_t nets, const struct nurimkkot_cell *cel
  * the same bytes. */
 uint8_t nurimkkot_write_answer(uint32_t apprentice, const uint16_t *places, size_t count,
                                uint8_t *sheet, size_t room, size_t *length);
+
+/* Writes a settings sheet in the same way: its version, the board's number and the flags of `count` entries, as
+ * nurimkkot_read_settings gives them. Here 2 comes last.
+ *
+ *   72  the version is neither 1 nor 2, or the version is 1 and the board's number is not 0;
+ *   73  count is above 8;
+ *   75  an entry has a flag above the five roles;
+ *    2  the buffer is shorter than the sheet, NURIMKKOT_SETTINGS_LENGTH(version, count).
+ * A sheet that was written passes 70 to 75 of the judge and reads back as this version, board and these entries. A sheet that passes
+ * 70 to 75 is written again to the same bytes. */
+uint8_t nurimkkot_write_settings(uint16_t version, uint16_t board, const uint8_t *entries, size_t count,
+                                 uint8_t *sheet, size_t room, size_t *length);
 
 #ifdef __cplusplus
 }

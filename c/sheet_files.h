@@ -1,24 +1,27 @@
-/* What the two examples share: reading a sheet from a file. */
+/* What the two examples share: reading a sheet from a file, and the board to judge by. */
 #ifndef NURIMKKOT_SHEET_FILES_H
 #define NURIMKKOT_SHEET_FILES_H
 
+#include "nurimkkot.h"
+
 #include <errno.h>
-#include <stdint.h>
 #include <stdio.h>
 #include <stdlib.h>
+#include <string.h>
 
 /* One byte more than the largest legal sheets: of a longer file no more is needed to give it its verdict. */
 #define EXERCISE_ROOM 12298
 #define ANSWER_ROOM 2060
+#define SETTINGS_ROOM (NURIMKKOT_MOST_SETTINGS + 1)
 
-/* Reads a file, as far as there is room. One that is missing counts as empty; one that is there and can't be read ends the program with
- * status 2, as it says nothing about the sheet. */
-static size_t read_file(const char *path, uint8_t *bytes, size_t room)
+/* Reads a file, as far as there is room. One that can't be read ends the program with status 2, as it says nothing about the sheet; one that
+ * is missing does so too, unless it counts as empty. */
+static size_t read_file(const char *path, int missing_is_empty, uint8_t *bytes, size_t room)
 {
     FILE *file = fopen(path, "rb");
     size_t length = 0;
     int failed;
-    if (file == NULL && errno == ENOENT)
+    if (file == NULL && errno == ENOENT && missing_is_empty)
         return 0;
     failed = file == NULL;
     if (file != NULL) {
@@ -31,6 +34,20 @@ static size_t read_file(const char *path, uint8_t *bytes, size_t room)
         exit(2);
     }
     return length;
+}
+
+/* The settings sheet of the board to judge by, and its length: the file behind --settings, where the arguments begin with that, and otherwise
+ * the board of document 01. Takes both arguments away. */
+static inline size_t read_board(int *argc, char ***argv, uint8_t settings[SETTINGS_ROOM])
+{
+    if (*argc > 2 && strcmp((*argv)[1], "--settings") == 0) {
+        const char *path = (*argv)[2];
+        *argc -= 2;
+        *argv += 2;
+        return read_file(path, 0, settings, SETTINGS_ROOM);
+    }
+    nurimkkot_house_settings(settings);
+    return NURIMKKOT_HOUSE_SETTINGS;
 }
 
 #endif

@@ -1,4 +1,5 @@
-/* Makes the exercise and the answer of document 01's listing from structs, and writes them to exercise.lxe and answer.lxa in a folder.
+/* Makes the exercise and the answer of document 01's listing from structs, and the settings sheet of a second board from its entries, and
+ * writes them to exercise.lxe, answer.lxa and settings.lxt in a folder.
  *
  *     cc -o write c/write.c target/staticlib/libc_api.a && ./write FOLDER */
 #include "nurimkkot.h"
@@ -7,6 +8,7 @@
 
 #define NETS 4
 #define CELLS 2
+#define ENTRIES 8
 
 /* A net as a signal. 0 is unconnected, 1 GND, 2 VCC, and NET(n) + 1 is net n inverted. */
 #define NET(n) ((uint16_t)(4 + 2 * (n)))
@@ -41,7 +43,18 @@ int main(int argc, char **argv)
         2, 1, 0, /* cell 0: x, y, LE */
         2, 1, 0, /* cell 1 */
     };
+    static const uint8_t entries[ENTRIES] = {
+        NURIMKKOT_CLK | NURIMKKOT_SCLR, /* entry 0 */
+        NURIMKKOT_CLK | NURIMKKOT_SLOAD,
+        NURIMKKOT_CLK | NURIMKKOT_ENA,
+        NURIMKKOT_ENA | NURIMKKOT_ACLR,
+        NURIMKKOT_ENA,
+        NURIMKKOT_ACLR,
+        NURIMKKOT_ACLR,
+        0, /* entry 7 serves nothing */
+    };
     static uint8_t exercise[NURIMKKOT_EXERCISE_LENGTH(CELLS)], answer[NURIMKKOT_ANSWER_LENGTH(CELLS)];
+    static uint8_t settings[NURIMKKOT_SETTINGS_LENGTH(2, ENTRIES)];
     uint8_t number;
     size_t length;
 
@@ -63,6 +76,10 @@ int main(int argc, char **argv)
         return 2;
     number = nurimkkot_write_answer(7, places, CELLS, answer, sizeof answer, &length);
     if (!save(argv[1], "answer.lxa", number, answer, length))
+        return 2;
+    /* Version 2, board 2. A sheet of version 1 has no board's number; that of nurimkkot_house_settings is one. */
+    number = nurimkkot_write_settings(2, 2, entries, ENTRIES, settings, sizeof settings, &length);
+    if (!save(argv[1], "settings.lxt", number, settings, length))
         return 2;
     return 0;
 }

@@ -1,7 +1,7 @@
 #!/usr/bin/env python3
 """Spreadsheets to sheets and back: what './nurimkkot write' and './nurimkkot csv' run.
 
-    python3 tools/csv_sheets.py write LIBRARY FOLDER    exercise.csv and answer.csv to exercise.lxe and answer.lxa
+    python3 tools/csv_sheets.py write LIBRARY FOLDER    exercise.csv, answer.csv, settings.csv to exercise.lxe, answer.lxa, settings.lxt
     python3 tools/csv_sheets.py csv LIBRARY FOLDER      the other way
 
 LIBRARY is the C library as a shared object. docs/AUTHORS.md tells what the CSV files hold.
@@ -23,7 +23,8 @@ import struct
 import sys
 from typing import NamedTuple
 
-EXERCISE_CSV, ANSWER_CSV, EXERCISE_LXE, ANSWER_LXA = "exercise.csv", "answer.csv", "exercise.lxe", "answer.lxa"
+EXERCISE_CSV, ANSWER_CSV, SETTINGS_CSV = TABLES = "exercise.csv", "answer.csv", "settings.csv"
+EXERCISE_LXE, ANSWER_LXA, SETTINGS_LXT = SHEETS = "exercise.lxe", "answer.lxa", "settings.lxt"
 LARGEST_CSV = 32 << 20      # bytes
 LARGEST_SHEET = 12298       # one byte more than the largest legal sheet has: the judge needs no more
 MOST_LINES = 20             # of mistakes that are shown
@@ -42,24 +43,29 @@ class Refused(Exception):
 RECORD = struct.Struct("=BB11H")        # struct nurimkkot_cell: kind, flag, eleven signals
 PLACE = struct.Struct("=3H")            # x, y, LE
 GIVEN, END = 0, 2                       # what a reader says
+HOUSE_SETTINGS = 12                     # the length of the settings sheet of document 01's board
+MOST_ENTRIES = 8                        # that the reader of settings sheets gives
 LARGEST_16, LARGEST_32 = 0xffff, 0xffffffff
 
 
 class Library:
-    """The functions of c/nurimkkot.h. A record is 13 numbers, a place three."""
+    """The functions of c/nurimkkot.h. A record is 13 numbers, a place three, an entry a byte of flags."""
 
     def __init__(self, path):
         number, count, size = ctypes.c_uint8, ctypes.c_uint16, ctypes.c_size_t
         sheet, lent = ctypes.c_char_p, ctypes.c_void_p
         try:
             self.functions = ctypes.CDLL(path)
-            self.c_judge = self.function("judge", None, sheet, size, sheet, size, lent, size, lent)
+            self.c_house_settings = self.function("house_settings", None, lent)
+            self.c_judge = self.function("judge", None, sheet, size, sheet, size, sheet, size, lent, size, lent)
             self.c_open_exercise = self.function("open_exercise", number, sheet, size)
             self.c_open_answer = self.function("open_answer", number, sheet, size)
             self.c_next_record = self.function("next_record", number, sheet, size, lent, lent)
             self.c_next_place = self.function("next_place", number, sheet, size, lent, lent)
             self.c_write_exercise = self.function("write_exercise", number, count, sheet, size, lent, size, lent)
             self.c_write_answer = self.function("write_answer", number, ctypes.c_uint32, lent, size, lent, size, lent)
+            self.c_read_settings = self.function("read_settings", number, sheet, size, lent, lent)
+            self.c_write_settings = self.function("write_settings", number, count, count, sheet, size, lent, size, lent)
         except (OSError, AttributeError) as why:
             raise Refused("the library can't be used: %s" % why) from None
 
@@ -69,9 +75,10 @@ class Library:
         return found
 
     def judge(self, exercise, answer):
-        """The verdict's number, its cell and the apprentice."""
-        numbers, route = (ctypes.c_uint64 * 7)(), (ctypes.c_uint8 * 8192)()
-        self.c_judge(exercise, len(exercise), answer, len(answer), route, len(route), numbers)
+        """The verdict's number, its cell and the apprentice, on document 01's board: no number up to 26 depends on the board."""
+        numbers, route, board = (ctypes.c_uint64 * 7)(), (ctypes.c_uint8 * 8192)(), ctypes.create_string_buffer(HOUSE_SETTINGS)
+        self.c_house_settings(board)
+        self.c_judge(board.raw, len(board), exercise, len(exercise), answer, len(answer), route, len(route), numbers)
         return numbers[0], numbers[1], numbers[3]
 
     def read(self, step, form, sheet):
@@ -93,6 +100,13 @@ class Library:
         opens = self.c_open_answer(answer, len(answer)) == 0
         return self.read(self.c_next_place, PLACE, answer) if opens else None
 
+    def settings(self, sheet):
+        """The reader's number for a settings sheet, its version, its board and its entries."""
+        numbers, entries = (ctypes.c_uint16 * 3)(), (ctypes.c_uint8 * MOST_ENTRIES)()
+        number = self.c_read_settings(sheet, len(sheet), numbers, entries)
+        version, board, count = numbers
+        return number, version, board, bytes(entries[:count])
+
     def write_exercise(self, nets, records):
         """The writer's number, and the exercise sheet where that is 0. A net count that doesn't fit is too large anyway."""
         cells = b"".join([RECORD.pack(*record) for record in records])
@@ -105,6 +119,12 @@ class Library:
         numbers = (ctypes.c_uint16 * (3 * len(places)))(*[min(n, LARGEST_16) for place in places for n in place])
         sheet, length = ctypes.create_string_buffer(11 + 4 * len(places)), ctypes.c_size_t()
         number = self.c_write_answer(apprentice, numbers, len(places), sheet, len(sheet), ctypes.byref(length))
+        return number, sheet.raw[:length.value]
+
+    def write_settings(self, version, board, entries):
+        """The writer's number, and the settings sheet where that is 0. A version that doesn't fit is too large anyway."""
+        sheet, length = ctypes.create_string_buffer(8 + len(entries)), ctypes.c_size_t()
+        number = self.c_write_settings(min(version, LARGEST_16), board, entries, len(entries), sheet, len(sheet), ctypes.byref(length))
         return number, sheet.raw[:length.value]
 
 
@@ -252,6 +272,34 @@ class CsvFile:
         self.end()
         return rows
 
+    def need_row(self, rows, at, what):
+        """One of the first rows. Ends the work where it is not there."""
+        if at >= len(rows):
+            self.mistake_at(rows[-1][0].line if rows else 1, "there is no row with the %s%s" % (what, " after this one" if rows else ""))
+            self.end()
+        return rows[at]
+
+    def number(self, field):
+        """The number in a field, or None with a mistake."""
+        number = number_in(field.text)
+        if number is None:
+            self.mistake(field, "%s is no number" % shown(field.text) if field.text else "the number is missing")
+        return number
+
+    def named_number(self, row, which, name, most=None):
+        """The number in a row that is a name and a number, at most so large, and its field; None with a mistake."""
+        field = row[1] if len(row) > 1 else Field("", row[0].line, 2)
+        if row[0].text.lower() != name:
+            self.mistake(row[0], "the %s row is the word %s and the %s's number" % (which, name, name))
+            return None, field
+        number = self.number(field)
+        if number is not None and most is not None and number > most:
+            self.mistake(field, "the %s is at most %d" % (name, most))
+        for other in row[2:]:
+            if other.text:
+                self.mistake(other, "%s stands after the %s's number" % (shown(other.text), name))
+        return number, field
+
     def find_columns(self, row, needed):
         """Finds the column of each heading in the row that has them."""
         for field in row:
@@ -394,10 +442,7 @@ def read_exercise(data):
     """What the bytes of exercise.csv say."""
     file = CsvFile(EXERCISE_CSV, EXERCISE_HEADINGS)
     rows = file.rows(data, 1, EXERCISE_HEADINGS)
-    if not rows:
-        file.mistake_at(1, "there is no row with the headings")
-        file.end()
-    file.find_columns(rows[0], ("kind",))
+    file.find_columns(file.need_row(rows, 0, "headings"), ("kind",))
     exercise = Exercise(file)
     for row in rows[1:]:
         exercise.add(row[0].line, file.by_heading(row))
@@ -501,35 +546,16 @@ def cells_of_sheet(library, sheet):
 class Answer:
     """What answer.csv says: the apprentice, and for each cell its fields by heading and its place."""
 
-    def __init__(self, file, cells):
+    def __init__(self, file, cells, apprentice, apprentice_field):
         self.file, self.cells = file, cells
-        self.apprentice, self.apprentice_field = 0, None
+        self.apprentice, self.apprentice_field = apprentice, apprentice_field
         self.fields, self.numbers = {}, {}
 
     def places(self):
         return [self.numbers[cell] for cell in range(len(self.cells.names))]
 
-    def number(self, field):
-        """The number in a field, or 0 with a mistake."""
-        number = number_in(field.text)
-        if number is None:
-            self.file.mistake(field, "%s is no number" % shown(field.text) if field.text else "the number is missing")
-        return number or 0
-
-    def read_apprentice(self, row):
-        if row[0].text.lower() != "apprentice":
-            self.file.mistake(row[0], "the first row is the word apprentice and the apprentice's number")
-            return
-        self.apprentice_field = row[1] if len(row) > 1 else Field("", row[0].line, 2)
-        self.apprentice = self.number(self.apprentice_field)
-        if self.apprentice > LARGEST_32:
-            self.file.mistake(self.apprentice_field, "the apprentice is at most %d" % LARGEST_32)
-        for field in row[2:]:
-            if field.text:
-                self.file.mistake(field, "%s stands after the apprentice's number" % shown(field.text))
-
     def add(self, fields):
-        numbers = tuple(self.number(fields[heading]) for heading in ("x", "y", "le"))
+        numbers = tuple(self.file.number(fields[heading]) for heading in ("x", "y", "le"))
         cell = self.cell(fields["cell"])
         if cell in self.fields:
             self.file.mistake(fields["cell"], "%s has a place already, at line %d"
@@ -564,15 +590,9 @@ def read_answer(data, cells):
     """What the bytes of answer.csv say of these cells."""
     file = CsvFile(ANSWER_CSV, ANSWER_HEADINGS)
     rows = file.rows(data, 2, ANSWER_HEADINGS + ("apprentice",))
-    answer = Answer(file, cells)
-    if rows:
-        answer.read_apprentice(rows[0])
-    else:
-        file.mistake_at(1, "there is no row with the apprentice")
-    if len(rows) == 1:
-        file.mistake_at(rows[0][0].line, "there is no row with the headings after this one")
+    answer = Answer(file, cells, *file.named_number(file.need_row(rows, 0, "apprentice"), "first", "apprentice", LARGEST_32))
     file.end()
-    file.find_columns(rows[1], ANSWER_HEADINGS)
+    file.find_columns(file.need_row(rows, 1, "headings"), ANSWER_HEADINGS)
     for row in rows[2:]:
         answer.add(file.by_heading(row))
     answer.need_all()
@@ -603,6 +623,92 @@ def why_26(library, answer):
             % (answer.file.where(field), shown(field.text)))
 
 
+# ---------------------------------------------------------------- settings.csv
+
+ROLES = {"clk": 1, "ena": 2, "aclr": 4, "sclr": 8, "sload": 16}
+SETTINGS_HEADINGS = ("entry",) + tuple(ROLES)
+SERVES = {"x": True, "1": True, "yes": True, "true": True, "": False, "0": False, "no": False, "false": False}
+
+
+class Settings:
+    """What settings.csv says: version and board, each with its field, and for each entry its number's field and its flags."""
+
+    def __init__(self, file, version, board):
+        self.file = file
+        self.version, self.version_field = version
+        self.board, self.board_field = board
+        self.fields, self.flags = {}, {}
+
+    def entries(self):
+        return bytes(self.flags[entry] for entry in range(len(self.flags)))
+
+    def add(self, fields):
+        entry = self.file.number(fields["entry"])
+        flags = sum(flag for role, flag in ROLES.items() if self.serves(fields[role]))
+        if entry in self.fields:
+            self.file.mistake(fields["entry"], "entry %d has a row already, at line %d" % (entry, self.fields[entry].line))
+        elif entry is not None:
+            self.fields[entry], self.flags[entry] = fields["entry"], flags
+
+    def serves(self, field):
+        text = field.text.lower()
+        if text not in SERVES:
+            self.file.mistake(field, "this is x or empty, not %s" % shown(field.text))
+        return SERVES.get(text, False)
+
+    def need_all(self):
+        """The entries are 0, 1, 2 and so on."""
+        for meant, entry in enumerate(sorted(self.fields)):
+            if entry != meant:
+                field = self.fields[entry]
+                self.file.mistake(field, "entry %d has no row, so %s can't stand here" % (meant, shown(field.text)))
+                return
+
+
+def read_settings(data):
+    """What the bytes of settings.csv say."""
+    file = CsvFile(SETTINGS_CSV, SETTINGS_HEADINGS)
+    rows = file.rows(data, 3, SETTINGS_HEADINGS + ("version", "board"))
+    version = file.named_number(file.need_row(rows, 0, "version"), "first", "version")
+    board = file.named_number(file.need_row(rows, 1, "board"), "second", "board", LARGEST_16)
+    file.end()
+    file.find_columns(file.need_row(rows, 2, "headings"), SETTINGS_HEADINGS)
+    settings = Settings(file, version, board)
+    for row in rows[3:]:
+        settings.add(file.by_heading(row))
+    settings.need_all()
+    file.end()
+    return settings
+
+
+def settings_sheet(library, settings):
+    """The sheet of what settings.csv says."""
+    number, sheet = library.write_settings(settings.version, settings.board, settings.entries())
+    if number == 72:
+        raise Refused(why_72(library, settings))
+    if number == 73:
+        raise Refused(why_73(library, settings))
+    if number:
+        raise Refused("%s: refused with %d" % (settings.file.name, number))
+    return sheet
+
+
+def why_72(library, settings):
+    """The version where it is refused with board 0 too, otherwise the board."""
+    alone = library.write_settings(settings.version, 0, b"")[0]
+    field = settings.version_field if alone == 72 else settings.board_field
+    return ("%s: refused with 72: %s can't stand here; the version is 1 or 2, and in version 1 the board is 0"
+            % (settings.file.where(field), shown(field.text)))
+
+
+def why_73(library, settings):
+    """The first entry with which it is refused."""
+    entries = settings.entries()
+    refused = lambda entry: library.write_settings(settings.version, settings.board, entries[:entry + 1])[0] == 73
+    entry = next(entry for entry in range(len(entries)) if refused(entry))
+    return "%s: refused with 73: entry %d is one too many; a sheet has at most 8" % (settings.file.where(settings.fields[entry]), entry)
+
+
 # ---------------------------------------------------------------- sheets to CSV
 
 # What the judge's number says of a sheet, with the cell where it names one.
@@ -613,12 +719,25 @@ SAID = {10: "it has under 9 bytes", 11: "it does not begin with LXE", 12: "its v
         24: "it has another number of cells than the exercise", 25: "its length is not that of so many cells",
         26: "the place of cell {} is out of range"}
 
+# What the reader's number says of a settings sheet.
+SAID_OF_SETTINGS = {70: "it has under 6 bytes", 71: "it does not begin with LXT", 72: "its version is neither 1 nor 2",
+                    73: "it has more than 8 entries", 74: "its length is not that of so many entries",
+                    75: "an entry has a flag above the five roles"}
+
 
 def need_good(library, exercise, answer):
     """Refuses sheets that get one of 10 to 26. Where the answer is None, the exercise is asked by itself."""
     number, cell, _ = library.judge(exercise, answer or b"")
     if number in SAID and not (number == 20 and answer is None):
         raise Refused("%s is refused with %d: %s" % (EXERCISE_LXE if number < 20 else ANSWER_LXA, number, SAID[number].format(cell)))
+
+
+def read_good_settings(library, sheet):
+    """The version, board and entries of a settings sheet. Refuses one that gets one of 70 to 75."""
+    number, *said = library.settings(sheet)
+    if number:
+        raise Refused("%s is refused with %d: %s" % (SETTINGS_LXT, number, SAID_OF_SETTINGS[number]))
+    return tuple(said)
 
 
 def cell_name(number):
@@ -671,6 +790,19 @@ def answer_csv(apprentice, places):
     """The bytes of answer.csv for an apprentice and these places."""
     rows = [("apprentice", str(apprentice)), ANSWER_HEADINGS]
     return csv_bytes(rows + [(cell_name(number), *map(str, place)) for number, place in enumerate(places)])
+
+
+def settings_csv(version, board, entries):
+    """The bytes of settings.csv for a version, a board and these entries."""
+    rows = [("version", str(version)), ("board", str(board)), SETTINGS_HEADINGS]
+    return csv_bytes(rows + [(str(number), *["x" if flags & flag else "" for flag in ROLES.values()]) for number, flags in enumerate(entries)])
+
+
+def settings_to_csv(library, sheet):
+    """The CSV file of a settings sheet. Refused unless the very sheet comes back from it."""
+    data = settings_csv(*read_good_settings(library, sheet))
+    same((settings_sheet(library, read_settings(data)), sheet))
+    return {SETTINGS_CSV: data}
 
 
 def sheets_to_csv(library, exercise, answer):
@@ -838,7 +970,7 @@ def put_in_place(folder, files, check, replace):
                 add_all(made)
             placed.extend(files)
     except OSError as why:
-        raise Refused("%s not written: %s" % (" and ".join(files) + (" is" if len(files) == 1 else " are"), why_not(why))) from None
+        raise Refused("%s not written: %s" % (listed(files) + (" is" if len(files) == 1 else " are"), why_not(why))) from None
     finally:
         with undisturbed():
             remove(*made.values())
@@ -852,8 +984,14 @@ def same(*pairs):
         raise Refused("what was made does not read back as it was meant, and nothing is written")
 
 
-def counted(count, what):
-    return "%d %s%s" % (count, what, "" if count == 1 else "s")
+def listed(names):
+    """Names in words: 'a', 'a and b', 'a, b and c'."""
+    *first, last = names
+    return "%s and %s" % (", ".join(first), last) if first else last
+
+
+def counted(count, what, many=None):
+    return "%d %s" % (count, what if count == 1 else many or what + "s")
 
 
 def about_exercise(name, cells, nets):
@@ -864,27 +1002,33 @@ def about_answer(name, places, apprentice):
     return "%s: %s, apprentice %d" % (name, counted(places, "place"), apprentice)
 
 
+def about_settings(name, version, board, entries):
+    return "%s: %s, version %d, board %d" % (name, counted(len(entries), "entry", "entries"), version, board)
+
+
 def write(library, folder):
-    """exercise.csv and answer.csv to exercise.lxe and answer.lxa. Gives lines that tell what was written."""
-    exercise_data, answer_data = read_csv(folder, EXERCISE_CSV), read_csv(folder, ANSWER_CSV)
-    if exercise_data is None and answer_data is None:
-        raise Refused("there is neither %s nor %s in the folder" % (EXERCISE_CSV, ANSWER_CSV))
-    exercise, answer, files, lines = None, None, {}, []
-    if exercise_data is None:
-        sheet = exercise_beside(library, folder)
-        cells = cells_of_sheet(library, sheet)
-    else:
+    """The CSV files to sheets. Gives lines that tell what was written."""
+    exercise_data, answer_data, settings_data = (read_csv(folder, name) for name in TABLES)
+    if exercise_data is None and answer_data is None and settings_data is None:
+        raise Refused("there is neither %s in the folder" % " nor ".join(TABLES))
+    exercise, answer, settings, sheet, files, lines = None, None, None, None, {}, []
+    if exercise_data is not None:
         exercise = read_exercise(exercise_data)
         sheet = files[EXERCISE_LXE] = exercise_sheet(library, exercise)
-        cells = cells_of_csv(exercise)
-        lines.append(about_exercise(EXERCISE_LXE, len(cells.names), len(exercise.nets)))
+        lines.append(about_exercise(EXERCISE_LXE, len(exercise.cells()), len(exercise.nets)))
     if answer_data is not None:
-        answer = read_answer(answer_data, cells)
+        if exercise is None:
+            sheet = exercise_beside(library, folder)
+        answer = read_answer(answer_data, cells_of_csv(exercise) if exercise else cells_of_sheet(library, sheet))
         files[ANSWER_LXA] = answer_sheet(library, answer)
-        lines.append(about_answer(ANSWER_LXA, len(cells.names), answer.apprentice))
-    elif os.path.lexists(os.path.join(folder, ANSWER_LXA)):
+        lines.append(about_answer(ANSWER_LXA, len(answer.places()), answer.apprentice))
+    elif exercise and os.path.lexists(os.path.join(folder, ANSWER_LXA)):
         lines.append("%s: left as it is, there is no %s" % (ANSWER_LXA, ANSWER_CSV))
-    put_in_place(folder, files, lambda read: check_sheets(library, exercise, answer, {EXERCISE_LXE: sheet, **read}), replace=True)
+    if settings_data is not None:
+        settings = read_settings(settings_data)
+        files[SETTINGS_LXT] = settings_sheet(library, settings)
+        lines.append(about_settings(SETTINGS_LXT, settings.version, settings.board, settings.entries()))
+    put_in_place(folder, files, lambda read: check_sheets(library, exercise, answer, settings, {EXERCISE_LXE: sheet, **read}), replace=True)
     return lines
 
 
@@ -897,33 +1041,42 @@ def exercise_beside(library, folder):
     return sheet
 
 
-def check_sheets(library, exercise, answer, sheets):
+def check_sheets(library, exercise, answer, settings, sheets):
     """Refuses sheets that do not read back, by the proved readers and the judge, as what the CSV files say."""
     sheet = sheets[EXERCISE_LXE]
-    need_good(library, sheet, None)
     if exercise:
+        need_good(library, sheet, None)
         same((library.records(sheet), exercise.records()), (net_count(sheet), len(exercise.nets)))
     if answer:
         need_good(library, sheet, sheets[ANSWER_LXA])
         same((library.places(sheets[ANSWER_LXA]), answer.places()), (library.judge(sheet, sheets[ANSWER_LXA])[2], answer.apprentice))
+    if settings:
+        same((read_good_settings(library, sheets[SETTINGS_LXT]), (settings.version, settings.board, settings.entries())))
 
 
 def csv(library, folder):
-    """exercise.lxe and answer.lxa to exercise.csv and answer.csv. Gives lines that tell what was written."""
-    exercise, answer = read_file(folder, EXERCISE_LXE, LARGEST_SHEET), read_file(folder, ANSWER_LXA, LARGEST_SHEET)
-    if exercise is None:
+    """The sheets to CSV files. Gives lines that tell what was written."""
+    exercise, answer, settings = (read_file(folder, name, LARGEST_SHEET) for name in SHEETS)
+    if exercise is None and answer is None and settings is None:
+        raise Refused("there is neither %s nor %s in the folder" % (EXERCISE_LXE, SETTINGS_LXT))
+    if exercise is None and answer is not None:
         raise Refused("there is no %s in the folder" % EXERCISE_LXE)
-    files = sheets_to_csv(library, exercise, answer)
+    files, lines = {}, []
+    if exercise is not None:
+        files.update(sheets_to_csv(library, exercise, answer))
+        cells = len(library.records(exercise))
+        lines.append(about_exercise(EXERCISE_CSV, cells, net_count(exercise)))
+    if answer is not None:
+        lines.append(about_answer(ANSWER_CSV, cells, library.judge(exercise, answer)[2]))
+    if settings is not None:
+        files.update(settings_to_csv(library, settings))
+        lines.append(about_settings(SETTINGS_CSV, *read_good_settings(library, settings)))
     there = [name for name in files if os.path.lexists(os.path.join(folder, name))]
     for name in there:
         if read_file(folder, name, len(files[name]) + 1) != files[name]:
             raise Refused("%s is there already, with other contents, and is not replaced" % name)
     new = {name: data for name, data in files.items() if name not in there}
     put_in_place(folder, new, lambda read: same((read, new)), replace=False)
-    cells = len(library.records(exercise))
-    lines = [about_exercise(EXERCISE_CSV, cells, net_count(exercise))]
-    if answer is not None:
-        lines.append(about_answer(ANSWER_CSV, cells, library.judge(exercise, answer)[2]))
     return [line + "; it was there already" if name in there else line for name, line in zip(files, lines)]
 
 

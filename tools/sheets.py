@@ -1,10 +1,13 @@
 #!/usr/bin/env python3
 """Sample sheets for the judge of placement exercises.
 
-    python3 tools/sheets.py make                            write all samples under samples/
-    python3 tools/sheets.py words [--labs] EXERCISE ANSWER  print two sheets in words,
-                                                            with --labs also what each LAB has
-    python3 tools/sheets.py list                            print one line a sample
+    python3 tools/sheets.py make    write all samples under samples/, and the settings sheets
+                                    under boards/
+    python3 tools/sheets.py words [--labs] [--settings SETTINGS] EXERCISE ANSWER
+                                    print the sheets in words, with --labs also what each LAB has
+    python3 tools/sheets.py words --settings SETTINGS
+                                    print a settings sheet in words
+    python3 tools/sheets.py list    print one line a sample
 
 This tool builds sheets and prints sheets. It does not judge them. What the judge has to
 answer for a sample is written down next to the sample: the number, the cell, the LAB, the
@@ -12,7 +15,7 @@ apprentice, the culprit and, for a legal answer, the route bytes of each occupie
 
 To build sheets of your own, import it: see docs/SAMPLES.md. A wrong number is refused with a
 ValueError. Sheets that are wrong on purpose are built with raw_record, raw_exercise,
-raw_answer and patch, which only ask that each number fits its bytes.
+raw_answer, raw_settings and patch, which only ask that each number fits its bytes.
 """
 
 import os
@@ -24,6 +27,7 @@ import sys
 
 MAX_NETS = 1024
 MAX_CELLS = 512
+MAX_ENTRIES = 8
 
 
 class Signal(int):
@@ -36,6 +40,10 @@ GND = Signal(1)
 VCC = Signal(2)
 F = 255             # a route byte without a need
 NONE = 65535
+
+# The roles of a control entry, as flags; an entry that serves more than one has their sum.
+CLK, ENA, ACLR, SCLR, SLOAD = 1, 2, 4, 8, 16
+ROLES = ("clk", "ena", "aclr", "sclr", "sload")
 
 
 def checked(what, value, low, high):
@@ -155,6 +163,31 @@ def answer(apprentice, *places):
         for name, value, top in zip(("x", "y", "LE"), place, (31, 31, 15)):
             checked("%s of place %d" % (name, i), value, 0, top)
     return sheet
+
+
+def raw_settings(version, board, *entries):
+    """A settings sheet of any version and flags; board is None where there is no such number."""
+    head = b"LXT" + struct.pack("<HB", checked("a version", version, 0, 65535),
+                                checked("an entry count", len(entries), 0, 255))
+    if board is not None:
+        head += struct.pack("<H", checked("a board", board, 0, 65535))
+    return head + bytes(checked("entry %d" % i, flags, 0, 255)
+                        for i, flags in enumerate(entries))
+
+
+def settings(*entries, board=None):
+    """A settings sheet; an entry is the sum of its roles' flags. With a board's number it is of
+    version 2, otherwise of version 1, which stands for board 0."""
+    checked("an entry count", len(entries), 0, MAX_ENTRIES)
+    for i, flags in enumerate(entries):
+        checked("entry %d" % i, flags, 0, 31)
+    return raw_settings(1 if board is None else 2, board, *entries)
+
+
+# The board of document 01, and a second one that is wired differently.
+HOUSE = settings(CLK, CLK + ACLR, CLK + ENA, ENA + SLOAD, ACLR + SCLR, SCLR + SLOAD)
+SECOND = settings(CLK + SCLR, CLK + SLOAD, CLK + ENA, ENA + ACLR, ENA, ACLR, ACLR, 0, board=2)
+BOARDS = {"house.lxt": HOUSE, "second.lxt": SECOND}
 
 
 def patch(sheet, start, *values):
@@ -293,28 +326,55 @@ def records(data, head, size, cells):
     return min(cells, max(0, -(-(len(data) - head) // size)))
 
 
-def tail_words(data, head, size, cells, shown):
+def tail_words(data, head, size, count, shown, one="record missing for cell",
+               more="records missing for cells"):
     """What is missing or left over after the records that show."""
     lines = []
-    if shown < cells:
-        if shown + 1 == cells:
-            lines.append("  record missing for cell %d" % shown)
+    if shown < count:
+        if shown + 1 == count:
+            lines.append("  %s %d" % (one, shown))
         else:
-            lines.append("  records missing for cells %d to %d" % (shown, cells - 1))
-    end = head + size * cells
+            lines.append("  %s %d to %d" % (more, shown, count - 1))
+    end = head + size * count
     if size_of(data) > end:
         left = size_of(data) - end
-        more = " ..." if left > 16 else ""
+        dots = " ..." if left > 16 else ""
         lines.append("  %s left over at the end: %s"
-                     % (count_of(left, "byte"), hexes(data[end:end + 16]) + more))
+                     % (count_of(left, "byte"), hexes(data[end:end + 16]) + dots))
     return lines
 
 
-def words(ex, an, labs=False):
+def entry_words(flags):
+    """The roles that an entry serves."""
+    roles = [name for i, name in enumerate(ROLES) if flags >> i & 1]
+    bad = " (bad: byte %d, over 31)" % flags if flags > 31 else ""
+    return (", ".join(roles) or "nothing") + bad
+
+
+def settings_words(data):
+    """A settings sheet in words, line by line. A version that there is not is read like 1."""
+    is_second = number_at(data, 3, 2) == 2
+    head = 8 if is_second else 6
+    fields = [("version", 3, 2, lambda v: "" if v in (1, 2) else "must be 1 or 2"),
+              ("entries", 5, 1, lambda v: "at most 8" if v > MAX_ENTRIES else "")]
+    if is_second:
+        fields.append(("board", 6, 2, lambda v: ""))
+    lines = head_words("settings", data, b"LXT", head, fields)
+    if number_at(data, 3, 2) == 1:
+        lines.append("  board 0, for which version 1 stands")
+    count = number_at(data, 5, 1) or 0
+    shown = records(data, head, 1, count)
+    lines += ["  entry %d: %s" % (i, entry_words(data[head + i])) for i in range(shown)]
+    return lines + tail_words(data, head, 1, count, shown, "byte missing for entry",
+                              "bytes missing for entries")
+
+
+def words(ex, an, labs=False, settings=None):
     """Two sheets in words, with labs also what each LAB has. Each sheet is a byte run, or None
-    for a missing file."""
+    for a missing file. With a settings sheet, that one first."""
     version_bad = lambda v: "" if v == 1 else "must be 1"
-    lines = head_words("exercise", ex, b"LXE", 9, [
+    lines = [] if settings is None else settings_words(settings)
+    lines += head_words("exercise", ex, b"LXE", 9, [
         ("version", 3, 2, version_bad),
         ("nets", 5, 2, lambda v: "at most 1024" if v > 1024 else ""),
         ("cells", 7, 2, lambda v: "at most 512" if v > 512 else ""),
@@ -352,9 +412,6 @@ def words(ex, an, labs=False):
 
 
 # ---------------------------------------------------------------- what each LAB has
-
-ROLES = ("clk", "ena", "aclr", "sclr", "sload")
-
 
 class Lab:
     """What the cells of one LAB bring, as document 01 counts it for rules 60 to 65. Each of
@@ -482,6 +539,11 @@ def legal(apprentice, end, routes):
     return Expected(0, ("answer", end, 0), apprentice=apprentice, routes=routes)
 
 
+def no_board(number, end):
+    """A settings sheet that is refused; end is the length of the answer sheet."""
+    return Expected(number, ("answer", end, 0))
+
+
 EMPTY = [F, F, F, F, F, F, F, F]    # an occupied LAB without needs
 
 # ---------------------------------------------------------------- the samples
@@ -489,8 +551,9 @@ EMPTY = [F, F, F, F, F, F, F, F]    # an occupied LAB without needs
 SAMPLES = []
 
 
-def sample(name, why, ex, an, expected):
-    SAMPLES.append((name, why, ex, an, expected))
+def sample(name, why, ex, an, expected, settings=None):
+    """A sample; without a settings sheet it is judged by the board of document 01."""
+    SAMPLES.append((name, why, ex, an, expected, settings))
 
 
 # The worked listing, used by the header samples too: 57 and 19 bytes.
@@ -1039,6 +1102,91 @@ def legal_samples():
                            100: [0, F, 2, F, 1, F, F, F]}))
 
 
+def settings_samples():
+    """Numbers 70 to 75, beside the worked listing where nothing else is said."""
+    def fault(name, why, number, sheet, ex=LISTING_EX, an=LISTING_AN):
+        sample(name, why, ex, an, no_board(number, len(an or b"")), sheet)
+
+    fault("v70-empty", "the settings sheet is empty", 70, b"")
+    fault("v70-too-short", "a settings sheet of 5 bytes", 70, HOUSE[:5])
+    fault("v70-before-10", "an empty settings sheet and no other sheet: the settings come first",
+          70, b"", None, None)
+    fault("v71-mark", "the settings sheet's mark in small letters", 71, b"lxt" + HOUSE[3:])
+    fault("v71-exercise-sheet", "the exercise sheet in place of the settings", 71, LISTING_EX)
+    fault("v72-version", "a settings sheet of version 3", 72, patch(HOUSE, 3, 3, 0))
+    fault("v72-byte-order", "a settings sheet's version with the high byte first: version 256",
+          72, patch(HOUSE, 3, 0, 1))
+    fault("v73-count", "nine entries", 73, raw_settings(1, None, *[31] * 9))
+    fault("v73-six-bytes", "6 bytes of version 2 with nine entries: the count is asked first",
+          73, patch(raw_settings(2, None), 5, 9))
+    fault("v74-byte-missing", "the last entry is missing", 74, HOUSE[:-1])
+    fault("v74-byte-left-over", "one byte too many behind eight entries", 74, SECOND + b"\0")
+    fault("v74-long", "1,000 bytes too many behind the entries", 74, HOUSE + bytes(1000))
+    fault("v74-six-bytes", "6 bytes of version 2: the board's number is missing",
+          74, raw_settings(2, None))
+    fault("v74-seven-bytes", "7 bytes of version 2: half of the board's number is missing",
+          74, SECOND[:7])
+    fault("v74-before-75", "the last entry is missing, the first has every flag: "
+          "the length is asked first", 74, patch(HOUSE, 6, 255)[:-1])
+    fault("v75-flag", "entry 3 has a flag above the five roles",
+          75, patch(HOUSE, 9, 32 + ENA + SLOAD))
+    fault("v75-last-entry", "the last of eight entries has every flag", 75, patch(SECOND, 15, 255))
+    fault("v75-before-10", "a flag above the five roles beside an exercise of 8 bytes: "
+          "the settings come first", 75, patch(HOUSE, 9, 32), LISTING_EX[:8])
+
+
+def board_samples():
+    """Boards other than document 01's. The sheets of board2-NAME are those of the sample NAME."""
+    sheets_of = {name: (ex, an) for name, _, ex, an, _, _ in SAMPLES}
+
+    def on_board(name, why, like, expected, sheet):
+        sample(name, why, *sheets_of[like], expected, sheet)
+
+    def on_second(name, why, expected):
+        on_board("board2-" + name, why, name, expected, SECOND)
+
+    on_second("p09", "the second board: entries 0, 2, 3, on document 01's 0, 2, 1",
+              legal(9, 15, {67: [0, F, 2, F, 3, F, F, F]}))
+    on_second("p10", "the second board: entries 0, 1, 3, 5, on document 01's 0, 2, 1, 4",
+              legal(10, 19, {68: [0, 1, F, F, 3, 5, F, F]}))
+    on_second("p11", "the second board: entries 0, 1, 2, 3, 5, 6, on document 01's no way",
+              legal(11, 19, {69: [0, 1, 2, 3, 5, 6, F, F]}))
+    on_second("p12", "the second board: sclr takes 0 and sload 1, so that two clk have only 2; "
+              "on document 01's legal",
+              Expected(65, ("answer", 11, 4), lab=70, apprentice=12))
+    on_second("table4-1", "the second board: clk, sclr, sload take 2, 0, 1, and the lowest free "
+              "entry each time finds no way", legal(400, 23, {0: [2, F, F, F, F, F, 0, 1],
+                                                             67: EMPTY}))
+    on_second("v60-three-clocks", "the second board: 60 does not depend on the board",
+              Expected(60, ("answer", 15, 4), lab=33, apprentice=1600))
+    _, sheet, _ = class_answers()[14]
+    sample("board2-class-15", "the second board: LAB 202 of class/answer-15 needs all seven "
+           "entries that serve something, on document 01's no way",
+           class_exercise(), sheet,
+           legal(115, 259, {170: EMPTY, 171: [0, F, F, F, 3, F, F, 1],
+                            172: [0, F, F, F, 3, F, F, F], 202: [1, 2, 3, 4, 5, 6, 0, F],
+                            203: [0, F, F, F, 3, F, F, 1]}), SECOND)
+
+    on_board("board-version-2", "p12 by document 01's entries on a sheet of version 2: the "
+             "board's number changes nothing", "p12",
+             legal(12, 19, {70: [0, 2, F, F, 1, 4, 5, 3]}), settings(*HOUSE[6:], board=65535))
+    on_board("board-no-entries", "no entries, and no needs", "legal-constants",
+             legal(501, 15, {42: EMPTY}), settings())
+    on_board("board-no-entries-65", "no entries, and two needs", "listing",
+             Expected(65, ("answer", 11, 4), lab=34, apprentice=7), settings(board=0))
+    on_board("board-entry-without-role", "entry 0 of document 01's board serves nothing: "
+             "clk and aclr take 1 and 4", "listing",
+             legal(7, 19, {34: [1, F, F, F, 4, F, F, F]}), patch(HOUSE, 6, 0))
+    sample("board-eight-needs", "eight needs, and one entry for each, from the last role on",
+           exercise(12,
+                    reg(d=net(9), clk=net(0), ena=net(2), aclr=net(4), sclr=net(6),
+                        sload=net(7), sdata=net(8), q=net(10)),
+                    reg(d=net(10), clk=net(1), ena=net(3), aclr=net(5), q=net(11))),
+           answer(1700, (8, 3, 0), (8, 3, 1)),
+           legal(1700, 19, {104: [6, 7, 4, 5, 2, 3, 1, 0]}),
+           settings(SLOAD, SCLR, ACLR, ACLR, ENA, ENA, CLK, CLK))
+
+
 # ---------------------------------------------------------------- the class
 
 # Nets of the class exercise.
@@ -1293,6 +1441,8 @@ def all_samples():
         lab_samples()
         table4_samples()
         legal_samples()
+        settings_samples()
+        board_samples()
     return SAMPLES
 
 
@@ -1309,14 +1459,20 @@ def write(folder, name, data):
         file.write(data if isinstance(data, bytes) else data.encode("ascii"))
 
 
-def make(root):
-    for name, _, ex, an, expected in all_samples():
-        folder = os.path.join(root, name)
-        save(folder, ex, an)
+def make(top):
+    folder = os.path.join(top, "boards")
+    os.makedirs(folder, exist_ok=True)
+    for name, sheet in BOARDS.items():
+        write(folder, name, sheet)
+
+    for name, _, ex, an, expected, sheet in all_samples():
+        folder = os.path.join(top, "samples", name)
+        save(folder, ex, an, sheet)
+        write(folder, "settings.lxt", sheet)
         write(folder, "expected.txt", expected.expected_lines())
         write(folder, "listing.txt", expected.listing())
 
-    folder = os.path.join(root, "class")
+    folder = os.path.join(top, "samples", "class")
     os.makedirs(folder, exist_ok=True)
     ex = class_exercise()
     write(folder, "exercise.lxe", ex)
@@ -1336,18 +1492,21 @@ def make(root):
 
 def list_samples():
     lines = ["- `%s` (%d): %s" % (name, expected.number, why)
-             for name, why, _, _, expected in all_samples()]
+             for name, why, _, _, expected, _ in all_samples()]
     lines += ["- `class/answer-%02d` (%d): %s" % (i + 1, expected.number, why)
               for i, (why, _, expected) in enumerate(class_answers())]
     return "\n".join(lines) + "\n"
 
 
-def save(folder, ex, an):
-    """Write two sheets and their words into a folder, which is made where it is not there."""
+def save(folder, ex, an, settings=None):
+    """Write two sheets and their words into a folder, which is made where it is not there. With
+    a settings sheet, that one too; without, one that is there stays."""
     os.makedirs(folder, exist_ok=True)
     write(folder, "exercise.lxe", ex)
     write(folder, "answer.lxa", an)
-    write(folder, "words.txt", words(ex, an))
+    if settings is not None:
+        write(folder, "settings.lxt", settings)
+    write(folder, "words.txt", words(ex, an, settings=settings))
 
 
 def read_sheet(path, head, size):
@@ -1363,30 +1522,41 @@ def read_sheet(path, head, size):
         return part
 
 
-def read_sheets(ex_path, an_path):
-    """Two files, or one line about the first that can't be read."""
-    sheets = []
-    for path, head, size in ((ex_path, 9, 24), (an_path, 11, 4)):
-        try:
-            sheets.append(read_sheet(path, head, size))
-        except (OSError, ValueError) as error:
-            raise OSError("%s: %s" % (path, getattr(error, "strerror", None) or error))
-    return sheets
+def read_file(path, head, size):
+    """A sheet, or one line about why it can't be read."""
+    try:
+        return read_sheet(path, head, size)
+    except (OSError, ValueError) as error:
+        raise OSError("%s: %s" % (path, getattr(error, "strerror", None) or error))
+
+
+def run_words(args):
+    """What `words` prints, or None where the arguments are none of its own."""
+    labs, path, args = False, None, list(args)
+    while args and args[0] in ("--labs", "--settings"):
+        if args.pop(0) == "--labs":
+            labs = True
+        elif args:
+            path = args.pop(0)
+        else:
+            return None
+    if len(args) != 2 and (args or labs or path is None):
+        return None
+    sheet = None if path is None else read_file(path, 8, 1)
+    if not args:
+        return "\n".join(settings_words(sheet)) + "\n"
+    return words(read_file(args[0], 9, 24), read_file(args[1], 11, 4), labs, sheet)
 
 
 def run(args):
     """The command's output, or None where there is no such command."""
-    here = os.path.dirname(os.path.abspath(__file__))
     if args == ["make"]:
-        make(os.path.join(os.path.dirname(here), "samples"))
+        make(os.path.dirname(os.path.dirname(os.path.abspath(__file__))))
         return ""
     if args == ["list"]:
         return list_samples()
     if args[:1] == ["words"]:
-        labs = args[1:2] == ["--labs"]
-        paths = args[2:] if labs else args[1:]
-        if len(paths) == 2:
-            return words(*read_sheets(*paths), labs=labs)
+        return run_words(args[1:])
     return None
 
 

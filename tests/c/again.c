@@ -69,7 +69,7 @@ static void take_records(size_t from, size_t count)
 /* An exercise whose mark, version and length are right: written again, or refused as the judge refuses it. */
 static void exercise_again(const char *name)
 {
-    size_t length = read_file(name, memset(sheet, 0, sizeof sheet), sizeof sheet), given;
+    size_t length = read_file(name, 1, memset(sheet, 0, sizeof sheet), sizeof sheet), given;
     unsigned count = word_at(sheet + 7), number = (unsigned)verdict(sheet, length, NULL, 0);
     struct input in;
     given = read_records(length, count);
@@ -92,7 +92,7 @@ static void exercise_again(const char *name)
 /* The same for an answer, by opening it and reading its places: the zero byte of a place is not among what a writer is given. */
 static void answer_again(const char *name)
 {
-    size_t length = read_file(name, sheet, sizeof sheet), i;
+    size_t length = read_file(name, 1, sheet, sizeof sheet), i;
     uint8_t number = nurimkkot_open_answer(sheet, length);
     uint16_t at = 0, place[NURIMKKOT_PLACE_FIELDS];
     struct input in;

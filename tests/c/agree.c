@@ -1,5 +1,6 @@
-/* Compares the check of one LAB with the judge, as the header says they agree, on all LABs of pairs of sheets: agree EXERCISE ANSWER ..
- * The list of a LAB's records is checked in four orders. Sheets that break a rule up to 51 are passed over. */
+/* Compares the check of one LAB with the judge, as the header says they agree, on all LABs of pairs of sheets, each pair on a board: agree
+ * SETTINGS EXERCISE ANSWER .. The list of a LAB's records is checked in four orders. Sheets that break a rule up to 51, or one of 70 to 75,
+ * are passed over. */
 #include "check.h"
 #include "../../c/sheet_files.h"
 
@@ -9,6 +10,8 @@
 
 static struct nurimkkot_cell cells[CELLS];
 static uint16_t lab_of[CELLS];
+static uint8_t settings[SETTINGS_ROOM];
+static size_t settings_length;
 
 /* All cells of the exercise and their LABs, from the readers; gives how many there are. */
 static int read_sheets(const uint8_t *exercise, size_t exercise_length, const uint8_t *answer, size_t answer_length)
@@ -55,7 +58,7 @@ static void agree_on(const char *name, int lab, int n, const uint64_t *numbers, 
         uint8_t bytes[8], number;
         for (i = 0; i < count; i++)
             list[placed(order, i, count)] = cells[own[i]];
-        number = nurimkkot_check_lab(list, (size_t)count, bytes);
+        number = nurimkkot_check_lab(settings, settings_length, list, (size_t)count, bytes);
         expect(number == 0 || (number >= 60 && number <= 65), name, lab);
         if (numbers[NURIMKKOT_NUMBER] == 0)
             expect(number == 0 && memcmp(bytes, route + 8 * lab, 8) == 0, name, lab);
@@ -69,20 +72,22 @@ int main(int argc, char **argv)
     static uint8_t exercise[EXERCISE_ROOM], answer[ANSWER_ROOM], route[NURIMKKOT_ROUTE_SIZE];
     uint64_t numbers[NURIMKKOT_NUMBERS];
     int pair, lab, n, pairs = 0, named = 0;
-    for (pair = 1; pair + 1 < argc; pair += 2) {
-        size_t exercise_length = read_file(argv[pair], exercise, sizeof exercise);
-        size_t answer_length = read_file(argv[pair + 1], answer, sizeof answer);
-        nurimkkot_judge(exercise, exercise_length, answer, answer_length, route, sizeof route, numbers);
-        if (numbers[NURIMKKOT_NUMBER] != 0 && numbers[NURIMKKOT_NUMBER] < 60)
+    for (pair = 1; pair + 2 < argc; pair += 3) {
+        size_t exercise_length = read_file(argv[pair + 1], 1, exercise, sizeof exercise);
+        size_t answer_length = read_file(argv[pair + 2], 1, answer, sizeof answer);
+        settings_length = read_file(argv[pair], 0, settings, sizeof settings);
+        nurimkkot_judge(settings, settings_length, exercise, exercise_length, answer, answer_length, route, sizeof route, numbers);
+        if (numbers[NURIMKKOT_NUMBER] != 0 && (numbers[NURIMKKOT_NUMBER] < 60 || numbers[NURIMKKOT_NUMBER] > 65))
             continue;
         n = read_sheets(exercise, exercise_length, answer, answer_length);
         for (lab = 0; lab < LABS; lab++)
-            agree_on(argv[pair + 1], lab, n, numbers, route);
+            agree_on(argv[pair + 2], lab, n, numbers, route);
         pairs++;
         named += numbers[NURIMKKOT_NUMBER] != 0;
     }
     expect(named > 0 && pairs > named, "sheets of both sorts", pairs);
     if (failures == 0)
-        printf("C: the check of one LAB agrees with the judge in four orders on %d pairs of sheets, %d of them legal\n", pairs, pairs - named);
+        printf("C: the check of one LAB agrees with the judge in four orders on %d pairs of sheets with a board, %d of them legal\n", pairs,
+               pairs - named);
     return failures != 0;
 }

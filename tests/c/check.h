@@ -8,6 +8,9 @@
 #include <stdlib.h>
 #include <string.h>
 
+/* The settings sheet of document 01's board. */
+static const uint8_t HOUSE[NURIMKKOT_HOUSE_SETTINGS] = {'L', 'X', 'T', 1, 0, 6, 0x01, 0x05, 0x03, 0x12, 0x0c, 0x18};
+
 static int failures;
 
 static void expect(int holds, const char *what, long at)

@@ -1,6 +1,7 @@
 /* Calls the readers and the check of one LAB as the tablet would: sheets cut short at every length, lists that keep and that break each
- * rule of the list check, each in several orders, guard bytes around what is written, and a block of its own for each sheet and list so
- * that valgrind sees a read past the end. */
+ * rule of the list check, each in several orders, on several boards, guard bytes around what is written, and a block of its own for each
+ * sheet and list so that valgrind sees a read past the end. */
+#include "boards.h"
 #include "records.h"
 
 static const uint8_t NO_ROUTE[8] = {255, 255, 255, 255, 255, 255, 255, 255};
@@ -104,17 +105,29 @@ static void readers(void)
     expect(next(0, EXERCISE, sizeof EXERCISE, &at, fields) == NURIMKKOT_END, "far past the end", 65535);
 }
 
+/* The settings sheet to check lists by. */
+static const void *board = HOUSE;
+static size_t board_length = sizeof HOUSE;
+
+static void check_by(const void *settings, size_t length)
+{
+    board = settings;
+    board_length = length;
+}
+
 /* One call of the check of one LAB, with guards around the route bytes. */
 static void check_once(const char *what, const struct nurimkkot_cell *cells, size_t count, uint8_t number, const uint8_t *route)
 {
     uint8_t guarded[24];
     struct nurimkkot_cell *own = copy_of(cells, count * sizeof *cells);
+    uint8_t *settings = copy_of(board, board_length);
     size_t i;
     memset(guarded, 0xa5, sizeof guarded);
-    expect(nurimkkot_check_lab(own, count, guarded + 8) == number, what, number);
+    expect(nurimkkot_check_lab(settings, board_length, own, count, guarded + 8) == number, what, number);
     expect(memcmp(guarded + 8, route, 8) == 0, what, -1);
     for (i = 0; i < 8; i++)
         expect(guarded[i] == 0xa5 && guarded[16 + i] == 0xa5, "guards around the route bytes", (long)i);
+    give_back(settings, board, board_length);
     give_back(own, cells, count * sizeof *cells);
 }
 
@@ -297,10 +310,150 @@ static void lists(void)
     }
 }
 
+/* Lists beside a settings sheet that is refused with this number: 18 comes before it, and it comes before 60 to 65. */
+static void no_board(const char *what, uint8_t number)
+{
+    static struct nurimkkot_cell cells[33];
+    size_t i;
+    memset(cells, 0, sizeof cells);
+    for (i = 0; i < 33; i++)
+        cells[i].kind = 1;
+    check(what, cells, 0, number, NO_ROUTE);
+    check_once("18 for 33 cells before the board", cells, 33, 18, NO_ROUTE);
+    cells[31].signals[0] = 3;
+    check_once("18 for code 3 before the board", cells, 32, 18, NO_ROUTE);
+    cells[0] = reg(4, 0, 0, 0);
+    check("18 for rule 30 before the board", cells, 1, 18, NO_ROUTE);
+    cells[0] = reg(4, 0, 0, 20);
+    check(what, cells, 1, number, NO_ROUTE);
+    cells[1] = reg(5, 0, 0, 22);
+    cells[2] = reg(0, 0, 0, 24);
+    check("the board before 60", cells, 3, number, NO_ROUTE);
+    cells[0] = reg(4, 8, 12, 20);
+    cells[1] = reg(6, 10, 14, 22);
+    check("the board before 65", cells, 2, number, NO_ROUTE);
+}
+
+/* Two registers with the first so many of two clk, two ena, two aclr, sclr and sload as nets. GND and VCC need no entry. */
+static void with_needs(struct nurimkkot_cell *cells, int needs)
+{
+    static const int port[8] = {CLK, CLK, ENA, ENA, ACLR, ACLR, SCLR, SLOAD};
+    int i;
+    for (i = 0; i < 2; i++)
+        cells[i] = with(reg(1, 2, 1, (uint16_t)(100 + 2 * i)), SDATA, 2);
+    for (i = 0; i < needs; i++)
+        cells[i < 6 ? i % 2 : 0].signals[port[i]] = (uint16_t)(4 + 2 * i);
+}
+
+/* So many needs on a board of so many entries that serve everything: a need gets the entry of its own number, where there are enough. The
+ * entries past the last one serve nothing. */
+static void needs_and_entries(void)
+{
+    uint8_t settings[NURIMKKOT_MOST_SETTINGS] = {'L', 'X', 'T', 1, 0, 0}, route[8];
+    struct nurimkkot_cell cells[2];
+    int needs, entries, version, i;
+    memset(settings + 6, 31, 10);
+    for (version = 1; version <= 2; version++)
+        for (entries = 0; entries <= 8; entries++)
+            for (needs = 0; needs <= 8; needs++) {
+                settings[3] = (uint8_t)version;
+                settings[5] = (uint8_t)entries;
+                with_needs(cells, needs);
+                for (i = 0; i < 8; i++)
+                    route[i] = (uint8_t)(i < needs && needs <= entries ? i : 255);
+                check_by(settings, (size_t)(version == 1 ? 6 : 8) + (size_t)entries);
+                check("needs and entries", cells, 2, needs <= entries ? 0 : 65, route);
+            }
+}
+
+/* Eight needs on eight entries that each serve one role, in other orders; then with one entry that serves nothing. */
+static void eight_needs(void)
+{
+    static const uint8_t role[8] = {NURIMKKOT_CLK, NURIMKKOT_CLK, NURIMKKOT_ENA, NURIMKKOT_ENA, NURIMKKOT_ACLR, NURIMKKOT_ACLR,
+                                    NURIMKKOT_SCLR, NURIMKKOT_SLOAD};
+    uint8_t settings[14] = {'L', 'X', 'T', 1, 0, 8}, route[8];
+    struct nurimkkot_cell cells[2];
+    int first, i;
+    with_needs(cells, 8);
+    check_by(settings, sizeof settings);
+    for (first = 0; first < 8; first++) {
+        /* Entry (first + i) mod 8 has the role of need i; of two with the same role the lower entry goes to the first need. */
+        for (i = 0; i < 8; i++) {
+            settings[6 + (first + i) % 8] = role[i];
+            route[i] = (uint8_t)((first + i) % 8);
+        }
+        for (i = 0; i < 6; i += 2)
+            if (route[i] > route[i + 1]) {
+                uint8_t higher = route[i];
+                route[i] = route[i + 1];
+                route[i + 1] = higher;
+            }
+        check("eight needs on eight entries", cells, 2, 0, route);
+        settings[6 + first] = 0;
+        check("eight needs on seven entries and one that serves nothing", cells, 2, 65, NO_ROUTE);
+    }
+}
+
+/* What the second board makes of lists that document 01's board routes otherwise or refuses, and the other way round. */
+static void second_board(void)
+{
+    static const uint8_t p9[8] = {0, 255, 2, 255, 3, 255, 255, 255}, p11[8] = {0, 1, 2, 3, 5, 6, 255, 255};
+    static const uint8_t synchronous[8] = {2, 255, 255, 255, 255, 255, 0, 1}, seven[8] = {1, 2, 3, 4, 5, 6, 0, 255};
+    uint8_t another[sizeof SECOND];
+    struct nurimkkot_cell cells[3];
+    int number;
+    for (number = 0; number < 3; number++) {
+        memcpy(another, SECOND, sizeof SECOND);
+        another[6] = (uint8_t)(2 + 99 * number);
+        another[7] = (uint8_t)(127 * number);
+        check_by(another, sizeof another);
+        cells[0] = reg(4, 6, 8, 20);
+        check("P9 on the second board", cells, 1, 0, p9);
+        cells[0] = reg(4, 8, 12, 20);
+        cells[1] = reg(6, 10, 14, 22);
+        check("P11 on the second board", cells, 2, 0, p11);
+        cells[0] = with(cells[0], SCLR, 16);
+        check("P11 and sclr on the second board", cells, 2, 0, seven);
+        cells[0] = with(with(with(reg(4, 0, 8, 20), SCLR, 12), SLOAD, 14), SDATA, 2);
+        cells[1] = reg(6, 0, 10, 22);
+        check("P12 on the second board", cells, 2, 65, NO_ROUTE);
+        cells[0] = with(with(with(reg(4, 0, 0, 20), SCLR, 12), SLOAD, 14), SDATA, 2);
+        check("clk, sclr and sload on the second board", cells, 1, 0, synchronous);
+        cells[0] = reg(4, 0, 0, 20);
+        cells[1] = reg(5, 0, 0, 22);
+        cells[2] = reg(0, 0, 0, 24);
+        check("three clocks on the second board", cells, 3, 60, NO_ROUTE);
+    }
+}
+
+static void boards(void)
+{
+    uint8_t damaged[sizeof HOUSE];
+    size_t i;
+    for (i = 0; i < BOARD_COUNT; i++) {
+        check_by(BOARDS[i].bytes, BOARDS[i].length);
+        if (BOARDS[i].number != 0)
+            no_board(BOARDS[i].what, BOARDS[i].number);
+        else
+            check_once(BOARDS[i].what, NULL, 0, 0, NO_ROUTE);
+    }
+    for (i = 0; i < 8 * sizeof HOUSE; i++) {
+        memcpy(damaged, HOUSE, sizeof HOUSE);
+        damaged[i / 8] ^= (uint8_t)(1u << (i % 8));
+        check_by(damaged, sizeof damaged);
+        check_once("one bit of the settings changed", NULL, 0, settings_number(damaged, sizeof damaged), NO_ROUTE);
+    }
+    needs_and_entries();
+    eight_needs();
+    second_board();
+    check_by(HOUSE, sizeof HOUSE);
+}
+
 int main(void)
 {
     readers();
     lists();
+    boards();
     printf(failures ? "%d failures\n" : "C: readers and lists as expected\n", failures);
     return failures != 0;
 }

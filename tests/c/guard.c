@@ -1,14 +1,27 @@
-/* Calls the judge as the tablet would: empty sheets, sheets cut short and sheets with one wrong bit, route buffers of the right length,
- * one byte more and less, one byte and none, and guard bytes on both sides of what is written. The sanitizers watch this program; the
- * library is not built with them, so its own reads and writes are watched by valgrind. */
-#include "sheets.h"
+/* Calls the judge as the tablet would: empty sheets, sheets cut short and sheets with one wrong bit, the settings sheet among them, route
+ * buffers of the right length, one byte more and less, one byte and none, and guard bytes on both sides of what is written. The sanitizers
+ * watch this program; the library is not built with them, so its own reads and writes are watched by valgrind. */
+#include "boards.h"
 
 #define GUARD 64
 
-/* Judges with a route buffer and numbers between guard bytes, and copies both to `route` and `numbers`. */
-static void judge(const uint8_t *exercise, size_t exercise_length, const uint8_t *answer, size_t answer_length,
-                  uint8_t *route, size_t route_length, uint64_t *numbers)
+static uint8_t route[8193];
+static uint64_t numbers[NURIMKKOT_NUMBERS];
+
+/* The settings sheet to judge by. */
+static const void *board = HOUSE;
+static size_t board_length = sizeof HOUSE;
+
+static void judge_by(const void *settings, size_t length)
 {
+    board = settings;
+    board_length = length;
+}
+
+/* Judges with a route buffer and numbers between guard bytes, and copies both to `route` and `numbers`. */
+static void judge(const uint8_t *exercise, size_t exercise_length, const uint8_t *answer, size_t answer_length, size_t route_length)
+{
+    uint8_t *s = copy_of(board, board_length);
     uint8_t *e = copy_of(exercise, exercise_length);
     uint8_t *a = copy_of(answer, answer_length);
     uint8_t *room = malloc(route_length + 2 * GUARD);
@@ -18,7 +31,7 @@ static void judge(const uint8_t *exercise, size_t exercise_length, const uint8_t
         exit(2);
     memset(room, 0xa5, route_length + 2 * GUARD);
     memset(guarded, 0x5a, sizeof guarded);
-    nurimkkot_judge(e, exercise_length, a, answer_length, room + GUARD, route_length, guarded + 1);
+    nurimkkot_judge(s, board_length, e, exercise_length, a, answer_length, room + GUARD, route_length, guarded + 1);
     for (i = 0; i < GUARD; i++) {
         expect(room[i] == 0xa5, "guard in front of the route", (long)i);
         expect(room[GUARD + route_length + i] == 0xa5, "guard behind the route", (long)i);
@@ -35,57 +48,136 @@ static void judge(const uint8_t *exercise, size_t exercise_length, const uint8_t
     free(room);
     give_back(a, answer, answer_length);
     give_back(e, exercise, exercise_length);
+    give_back(s, board, board_length);
+}
+
+/* The worked listing on the board is refused with a number of 70 to 75, and so are its sheets cut short; a wrong route buffer comes first.
+ * judge() sees that no byte of the route is touched. */
+static void no_board(const char *what, uint8_t number)
+{
+    static const size_t cut[4][2] = {{sizeof EXERCISE, sizeof ANSWER}, {8, sizeof ANSWER}, {sizeof EXERCISE, 10}, {0, 0}};
+    size_t i;
+    for (i = 0; i < 4; i++) {
+        judge(EXERCISE, cut[i][0], ANSWER, cut[i][1], 8192);
+        expect(numbers[NURIMKKOT_NUMBER] == number, what, (long)numbers[NURIMKKOT_NUMBER]);
+        expect(numbers[NURIMKKOT_CELL] == NURIMKKOT_NONE && numbers[NURIMKKOT_LAB] == NURIMKKOT_NONE, "no cell and no LAB", number);
+        expect(numbers[NURIMKKOT_APPRENTICE] == 0, "apprentice of a refused board", (long)numbers[NURIMKKOT_APPRENTICE]);
+        expect(numbers[NURIMKKOT_SHEET] == 1 && numbers[NURIMKKOT_START] == cut[i][1] && numbers[NURIMKKOT_LENGTH] == 0,
+               "culprit of a refused board", number);
+        judge(EXERCISE, cut[i][0], ANSWER, cut[i][1], 8191);
+        expect(numbers[NURIMKKOT_NUMBER] == 1, "the route's length before the board", number);
+    }
+}
+
+/* The worked listing on the board: clk and aclr get these entries, or, where clk is 255, the LAB is refused with 65. */
+static void on_board(const char *what, uint8_t clk, uint8_t aclr)
+{
+    size_t i;
+    judge(EXERCISE, sizeof EXERCISE, ANSWER, sizeof ANSWER, 8192);
+    expect(numbers[NURIMKKOT_NUMBER] == (clk == 255 ? 65 : 0), what, (long)numbers[NURIMKKOT_NUMBER]);
+    expect(numbers[NURIMKKOT_LAB] == (clk == 255 ? 34 : NURIMKKOT_NONE), what, (long)numbers[NURIMKKOT_LAB]);
+    expect(numbers[NURIMKKOT_APPRENTICE] == 7, what, (long)numbers[NURIMKKOT_APPRENTICE]);
+    for (i = 0; clk != 255 && i < 8192; i++)
+        expect(route[i] == (i == 8 * 34 ? clk : i == 8 * 34 + 4 ? aclr : 255), what, (long)i);
+}
+
+/* Each bit of a settings sheet the other way. One that is still a settings sheet is a board. */
+static void damaged_board(const uint8_t *settings, size_t length)
+{
+    uint8_t damaged[NURIMKKOT_MOST_SETTINGS], number;
+    size_t i;
+    for (i = 0; i < 8 * length; i++) {
+        memcpy(damaged, settings, length);
+        damaged[i / 8] ^= (uint8_t)(1u << (i % 8));
+        judge_by(damaged, length);
+        number = settings_number(damaged, length);
+        if (number != 0) {
+            no_board("one bit of the settings changed", number);
+        } else {
+            judge(EXERCISE, sizeof EXERCISE, ANSWER, sizeof ANSWER, 8192);
+            expect(numbers[NURIMKKOT_NUMBER] == 0 || numbers[NURIMKKOT_NUMBER] == 65, "one bit of the settings changed", (long)i);
+        }
+    }
+}
+
+/* 70 to 75, and boards that route otherwise. */
+static void boards(void)
+{
+    static const uint16_t board_numbers[] = {0, 1, 2, 255, 256, 65535};
+    uint8_t same[14] = {'L', 'X', 'T', 2, 0, 6, 0, 0, 0x01, 0x05, 0x03, 0x12, 0x0c, 0x18};
+    size_t i;
+    for (i = 0; i < BOARD_COUNT; i++) {
+        judge_by(BOARDS[i].bytes, BOARDS[i].length);
+        if (BOARDS[i].number != 0)
+            no_board(BOARDS[i].what, BOARDS[i].number);
+    }
+    damaged_board(HOUSE, sizeof HOUSE);
+    damaged_board(SECOND, sizeof SECOND);
+    judge_by(SECOND, sizeof SECOND);
+    on_board("the second board", 0, 3);
+    judge_by("LXT\x01\x00\x00", 6);
+    on_board("no entries", 255, 255);
+    judge_by("LXT\x01\x00\x06\x00\x05\x03\x12\x0c\x18", 12);
+    on_board("entry 0 serves nothing", 1, 4);
+    judge_by("LXT\x01\x00\x01\x1f", 7);
+    on_board("one entry for two needs", 255, 255);
+    for (i = 0; i < sizeof board_numbers / sizeof board_numbers[0]; i++) {
+        same[6] = (uint8_t)(board_numbers[i] % 256);
+        same[7] = (uint8_t)(board_numbers[i] / 256);
+        judge_by(same, sizeof same);
+        on_board("the board's number", 0, 1);
+    }
+    judge_by(HOUSE, sizeof HOUSE);
+    on_board("document 01's board", 0, 1);
 }
 
 int main(void)
 {
     static const size_t lengths[] = {0, 1, 8191, 8192, 8193};
-    static uint8_t route[8193];
     uint8_t damaged[sizeof EXERCISE];
-    uint64_t numbers[NURIMKKOT_NUMBERS];
     size_t i;
 
     for (i = 0; i < sizeof lengths / sizeof lengths[0]; i++) {
-        judge(EXERCISE, sizeof EXERCISE, ANSWER, sizeof ANSWER, route, lengths[i], numbers);
+        judge(EXERCISE, sizeof EXERCISE, ANSWER, sizeof ANSWER, lengths[i]);
         expect(numbers[NURIMKKOT_NUMBER] == (lengths[i] == 8192 ? 0 : 1), "verdict by the route's length", (long)lengths[i]);
         expect(numbers[NURIMKKOT_APPRENTICE] == (lengths[i] == 8192 ? 7 : 0), "apprentice by the route's length", (long)lengths[i]);
         expect(numbers[NURIMKKOT_SHEET] == 1 && numbers[NURIMKKOT_START] == sizeof ANSWER && numbers[NURIMKKOT_LENGTH] == 0,
                "empty part at the answer's end", (long)lengths[i]);
     }
 
-    judge(EXERCISE, sizeof EXERCISE, ANSWER, sizeof ANSWER, route, 8192, numbers);
-    for (i = 0; i < 8192; i++)
-        expect(route[i] == (i == 8 * 34 ? 0 : i == 8 * 34 + 4 ? 1 : 255), "route of the worked listing", (long)i);
+    boards();
 
-    judge(EXERCISE, 0, ANSWER, 0, route, 8192, numbers);
+    judge(EXERCISE, 0, ANSWER, 0, 8192);
     expect(numbers[NURIMKKOT_NUMBER] == 10, "empty sheets", 0);
-    judge(EXERCISE, sizeof EXERCISE, ANSWER, 0, route, 8192, numbers);
+    judge(EXERCISE, sizeof EXERCISE, ANSWER, 0, 8192);
     expect(numbers[NURIMKKOT_NUMBER] == 20, "empty answer", 0);
 
     /* What is only read may overlap. */
-    nurimkkot_judge(EXERCISE, sizeof EXERCISE, EXERCISE, sizeof EXERCISE, route, 8192, numbers);
+    nurimkkot_judge(HOUSE, sizeof HOUSE, EXERCISE, sizeof EXERCISE, EXERCISE, sizeof EXERCISE, route, 8192, numbers);
     expect(numbers[NURIMKKOT_NUMBER] == 21, "the exercise sheet handed back", 0);
+    nurimkkot_judge(HOUSE, sizeof HOUSE, HOUSE, sizeof HOUSE, HOUSE, sizeof HOUSE, route, 8192, numbers);
+    expect(numbers[NURIMKKOT_NUMBER] == 11, "the settings sheet as all three", 0);
 
     for (i = 0; i < sizeof EXERCISE; i++) {
-        judge(EXERCISE, i, ANSWER, sizeof ANSWER, route, 8192, numbers);
+        judge(EXERCISE, i, ANSWER, sizeof ANSWER, 8192);
         expect(numbers[NURIMKKOT_NUMBER] == (i < 9 ? 10 : 14), "exercise cut short", (long)i);
         expect(numbers[NURIMKKOT_SHEET] == 0 && numbers[NURIMKKOT_LENGTH] == (i < 9 ? i : 9), "culprit of an exercise cut short", (long)i);
     }
     for (i = 0; i < sizeof ANSWER; i++) {
-        judge(EXERCISE, sizeof EXERCISE, ANSWER, i, route, 8192, numbers);
+        judge(EXERCISE, sizeof EXERCISE, ANSWER, i, 8192);
         expect(numbers[NURIMKKOT_NUMBER] == (i < 11 ? 20 : 25), "answer cut short", (long)i);
         expect(numbers[NURIMKKOT_SHEET] == 1 && numbers[NURIMKKOT_LENGTH] == (i < 11 ? i : 11), "culprit of an answer cut short", (long)i);
     }
     for (i = 0; i < 8 * sizeof EXERCISE; i++) {
         memcpy(damaged, EXERCISE, sizeof EXERCISE);
         damaged[i / 8] ^= (uint8_t)(1u << (i % 8));
-        judge(damaged, sizeof damaged, ANSWER, sizeof ANSWER, route, 8192, numbers);
+        judge(damaged, sizeof damaged, ANSWER, sizeof ANSWER, 8192);
         expect(numbers[NURIMKKOT_NUMBER] <= 65, "one bit of the exercise changed", (long)i);
     }
     for (i = 0; i < 8 * sizeof ANSWER; i++) {
         memcpy(damaged, ANSWER, sizeof ANSWER);
         damaged[i / 8] ^= (uint8_t)(1u << (i % 8));
-        judge(EXERCISE, sizeof EXERCISE, damaged, sizeof ANSWER, route, 8192, numbers);
+        judge(EXERCISE, sizeof EXERCISE, damaged, sizeof ANSWER, 8192);
         expect(numbers[NURIMKKOT_NUMBER] <= 65, "one bit of the answer changed", (long)i);
     }
     printf(failures ? "%d failures\n" : "C: judge as expected\n", failures);

@@ -38,32 +38,82 @@ static const uint8_t *at_an_address(const uint8_t *sheet)
     return sheet ? sheet : (const uint8_t *)somewhere;
 }
 
-/* The judge with sheets and route of which some are NULL, beside the same call with an address for each. */
-static uint64_t judge(const uint8_t *exercise, size_t exercise_length, const uint8_t *answer, size_t answer_length, int with_route)
+/* The judge with sheets and route of which some are NULL, beside the same call with an address for each. The settings sheet is that of
+ * document 01's board, or NULL. */
+static uint64_t judge_by(int with_settings, const uint8_t *exercise, size_t exercise_length, const uint8_t *answer, size_t answer_length,
+                         int with_route)
 {
     static uint8_t room[NURIMKKOT_ROUTE_SIZE], same[NURIMKKOT_ROUTE_SIZE];
     uint64_t numbers[NURIMKKOT_NUMBERS + 2], others[NURIMKKOT_NUMBERS];
-    size_t route_length = with_route ? sizeof room : 0;
+    const uint8_t *settings = with_settings ? HOUSE : NULL;
+    size_t settings_length = with_settings ? sizeof HOUSE : 0, route_length = with_route ? sizeof room : 0;
     memset(numbers, 0x5a, sizeof numbers);
     memset(room, 0xa5, sizeof room);
     memset(same, 0xa5, sizeof same);
     inside = 1;
-    nurimkkot_judge(exercise, exercise_length, answer, answer_length, with_route ? room : NULL, route_length, numbers + 1);
+    nurimkkot_judge(settings, settings_length, exercise, exercise_length, answer, answer_length, with_route ? room : NULL, route_length,
+                    numbers + 1);
     inside = 0;
-    nurimkkot_judge(at_an_address(exercise), exercise_length, at_an_address(answer), answer_length, same, route_length, others);
+    nurimkkot_judge(at_an_address(settings), settings_length, at_an_address(exercise), exercise_length, at_an_address(answer), answer_length,
+                    same, route_length, others);
     expect(memcmp(numbers + 1, others, sizeof others) == 0, "the same numbers as with an address", (long)numbers[1]);
     expect(memcmp(room, same, sizeof same) == 0, "the same route as with an address", (long)numbers[1]);
     expect(numbers[0] == 0x5a5a5a5a5a5a5a5a && numbers[NURIMKKOT_NUMBERS + 1] == 0x5a5a5a5a5a5a5a5a, "guards around the numbers", 0);
     return numbers[1 + NURIMKKOT_NUMBER];
 }
 
-/* The readers and the check of one LAB. */
+/* The same on document 01's board; without a settings sheet 70 comes after 1 and before all others. */
+static uint64_t judge(const uint8_t *exercise, size_t exercise_length, const uint8_t *answer, size_t answer_length, int with_route)
+{
+    uint64_t number = judge_by(0, exercise, exercise_length, answer, answer_length, with_route);
+    expect(number == (with_route ? 70 : 1), "no settings sheet", (long)number);
+    return judge_by(1, exercise, exercise_length, answer, answer_length, with_route);
+}
+
+/* The check of one LAB, with or without a settings sheet and a list. */
+static void check(int with_settings, int with_list, uint8_t number)
+{
+    static const struct nurimkkot_cell list[1] = {{1, 0, {0}}};
+    uint8_t route[8], said;
+    size_t j;
+    for (j = 0; j < 8; j++)
+        route[j] = 0xa5;
+    inside = 1;
+    said = nurimkkot_check_lab(with_settings ? HOUSE : NULL, with_settings ? sizeof HOUSE : 0, with_list ? list : NULL, with_list ? 1 : 0,
+                               route);
+    inside = 0;
+    expect(said == number, "the number of no list or no board", said);
+    for (j = 0; j < 8; j++)
+        expect(route[j] == NURIMKKOT_NO_ENTRY, "the route bytes of no list or no board", (long)j);
+}
+
+/* The reader of a settings sheet. */
+static void read_settings(void)
+{
+    uint16_t numbers[NURIMKKOT_SETTINGS_NUMBERS];
+    uint8_t entries[NURIMKKOT_MOST_ENTRIES], said;
+    size_t j;
+    for (j = 0; j < NURIMKKOT_SETTINGS_NUMBERS; j++)
+        numbers[j] = 0x5a5a;
+    for (j = 0; j < NURIMKKOT_MOST_ENTRIES; j++)
+        entries[j] = 0x5a;
+    inside = 1;
+    said = nurimkkot_read_settings(NULL, 0, numbers, entries);
+    inside = 0;
+    expect(said == 70, "reading no settings sheet", said);
+    for (j = 0; j < NURIMKKOT_SETTINGS_NUMBERS; j++)
+        expect(numbers[j] == 0, "numbers of no settings sheet", (long)j);
+    for (j = 0; j < NURIMKKOT_MOST_ENTRIES; j++)
+        expect(entries[j] == 0, "entries of no settings sheet", (long)j);
+}
+
+/* The readers of the other sheets. */
 static void forms(void)
 {
     static const uint16_t numbers[] = {0, 1, 511, 512, 65535};
     uint16_t fields[NURIMKKOT_CELL_FIELDS], at;
     struct nurimkkot_cell cell;
-    uint8_t route[8], said;
+    uint8_t said;
     size_t i, j;
     inside = 1;
     expect(nurimkkot_open_exercise(NULL, 0) == 10, "opening no exercise", 10);
@@ -91,17 +141,11 @@ static void forms(void)
         for (j = 0; j < NURIMKKOT_PLACE_FIELDS; j++)
             expect(fields[j] == 0, "fields of no place", (long)j);
     }
-    for (j = 0; j < 8; j++)
-        route[j] = 0xa5;
-    said = nurimkkot_check_lab(NULL, 0, route);
     inside = 0;
-    expect(said == 0, "the number of no list", said);
-    for (j = 0; j < 8; j++)
-        expect(route[j] == NURIMKKOT_NO_ENTRY, "the route bytes of no list", (long)j);
 }
 
-/* One of the writers, with no records or no sheet or neither, beside the same call with an address for each. `head` is the net count or the
- * apprentice, and two records are at hand. */
+/* One of the writers of the other sheets, with no records or no sheet or neither, beside the same call with an address for each. `head` is
+ * the net count or the apprentice, and two records are at hand. */
 static void writer(const char *what, int of_answer, uint32_t head, int with_records, int with_sheet, size_t room, uint8_t number)
 {
     static const struct nurimkkot_cell cells[2] = {{1, 0, {0}}, {2, 0, {0}}};
@@ -127,7 +171,43 @@ static void writer(const char *what, int of_answer, uint32_t head, int with_reco
         expect(sheet[i] == 0xa5, "a byte that is not the sheet's", (long)i);
 }
 
-/* The writers. */
+/* The writer of a settings sheet in the same way. */
+static void settings_writer(const char *what, uint16_t version, uint16_t board, int with_entries, int with_sheet, size_t room, uint8_t number)
+{
+    static const uint8_t entries[2] = {1, 2};
+    uint8_t sheet[64], same[64], said, others;
+    size_t lengths[2], count = with_entries ? 2 : 0, i;
+    memset(sheet, 0xa5, sizeof sheet);
+    memset(same, 0xa5, sizeof same);
+    memset(lengths, 0x5a, sizeof lengths);
+    inside = 1;
+    said = nurimkkot_write_settings(version, board, with_entries ? entries : NULL, count, with_sheet ? sheet : NULL, room, lengths);
+    inside = 0;
+    others = nurimkkot_write_settings(version, board, entries, count, same, room, lengths + 1);
+    expect(said == number && others == number, what, said);
+    expect(lengths[0] == (number == 0 ? NURIMKKOT_SETTINGS_LENGTH(version, count) : 0), what, (long)lengths[0]);
+    expect(lengths[0] == lengths[1], "the same length as with an address", (long)lengths[1]);
+    expect(memcmp(sheet, same, sizeof sheet) == 0, "the same sheet as with an address", (long)room);
+    for (i = lengths[0]; i < sizeof sheet; i++)
+        expect(sheet[i] == 0xa5, "a byte that is not the sheet's", (long)i);
+}
+
+static void settings_writers(void)
+{
+    uint16_t version;
+    for (version = 1; version <= 2; version++) {
+        size_t head = version == 1 ? 6 : 8;
+        settings_writer("no entries", version, 0, 0, 1, head, 0);
+        settings_writer("no entries, a longer buffer", version, 0, 0, 1, 64, 0);
+        settings_writer("no entries, a byte short", version, 0, 0, 1, head - 1, 2);
+        settings_writer("no entries, no buffer", version, 0, 0, 0, 0, 2);
+        settings_writer("no buffer for entries", version, 0, 1, 0, 0, 2);
+    }
+    settings_writer("version 3, no entries, no buffer", 3, 0, 0, 0, 0, 72);
+    settings_writer("board 1 in version 1, no entries, no buffer", 1, 1, 0, 0, 0, 72);
+}
+
+/* The writers of the other sheets. */
 static void writers(void)
 {
     int of_answer;
@@ -154,8 +234,8 @@ int main(int argc, char **argv)
     expect(judge(NULL, 0, NULL, 0, 0) == 1, "nothing at all", 1);
     expect(judge(NULL, 0, NULL, 0, 1) == 10, "no sheets", 10);
     for (pair = 1; pair + 1 < argc; pair += 2) {
-        size_t exercise_length = read_file(argv[pair], exercise, sizeof exercise);
-        size_t answer_length = read_file(argv[pair + 1], answer, sizeof answer);
+        size_t exercise_length = read_file(argv[pair], 1, exercise, sizeof exercise);
+        size_t answer_length = read_file(argv[pair + 1], 1, answer, sizeof answer);
         expect(judge(exercise, exercise_length, answer, answer_length, 0) == 1, argv[pair + 1], 1);
         expect(judge(NULL, 0, answer, answer_length, 0) == 1, argv[pair + 1], 1);
         expect(judge(exercise, exercise_length, NULL, 0, 0) == 1, argv[pair + 1], 1);
@@ -167,7 +247,12 @@ int main(int argc, char **argv)
         pairs++;
     }
     expect(pairs > 0 && empty_answers > 0 && empty_answers < pairs, "sheets of both sorts", pairs);
+    check(1, 0, 0);
+    check(0, 0, 70);
+    check(0, 1, 70);
+    read_settings();
     forms();
+    settings_writers();
     writers();
     expect(calls > 0, "memcpy and memset were watched", calls);
     if (failures == 0)

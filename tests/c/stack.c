@@ -1,7 +1,7 @@
 /* Measures the stack that a call of each function uses and fails where that is not less than the header says. A call runs in a thread
  * whose stack is painted first; the paint that is gone tells what the call used. The sheets have 512 cells, the LABs and the list 32, and
- * six of their needs get an entry before the search ends, which is as deep as it goes on six entries. Built without sanitizers, whose
- * frames would be measured too. */
+ * eight needs, the most there are, on eight entries, as many as a board may have, so that the search goes as deep as it can. Built without
+ * sanitizers, whose frames would be measured too. */
 #define _XOPEN_SOURCE 600
 #include "check.h"
 
@@ -19,9 +19,9 @@
 /* The header's figures: each function uses less. */
 #define JUDGE_LIMIT (48 * KIB)
 #define CHECK_LIMIT (8 * KIB)
-#define READER_LIMIT (1 * KIB)
 #define WRITE_EXERCISE_LIMIT (16 * KIB)
-#define WRITE_ANSWER_LIMIT (1 * KIB)
+/* Every other function. */
+#define SMALL_LIMIT (1 * KIB)
 
 static uint8_t exercise[9 + 24 * CELLS], answer[11 + 4 * CELLS], route[NURIMKKOT_ROUTE_SIZE], bytes[8], said;
 static uint64_t numbers[NURIMKKOT_NUMBERS];
@@ -30,14 +30,18 @@ static uint16_t places[3 * CELLS], at, fields[NURIMKKOT_CELL_FIELDS];
 static uint8_t sheet[sizeof exercise];
 static size_t length;
 
+/* A settings sheet of version 2 with eight entries, and what is read from it. */
+static uint8_t settings[NURIMKKOT_MOST_SETTINGS] = {'L', 'X', 'T', 2, 0, 8, 2, 0}, entries[NURIMKKOT_MOST_ENTRIES];
+static uint16_t board[NURIMKKOT_SETTINGS_NUMBERS];
+
 static void judge(void)
 {
-    nurimkkot_judge(exercise, sizeof exercise, answer, sizeof answer, route, sizeof route, numbers);
+    nurimkkot_judge(settings, sizeof settings, exercise, sizeof exercise, answer, sizeof answer, route, sizeof route, numbers);
 }
 
 static void check_lab(void)
 {
-    said = nurimkkot_check_lab(list, LIST, bytes);
+    said = nurimkkot_check_lab(settings, sizeof settings, list, LIST, bytes);
 }
 
 static void open_exercise(void)
@@ -73,6 +77,21 @@ static void write_exercise(void)
 static void write_answer(void)
 {
     said = nurimkkot_write_answer(7, places, CELLS, sheet, sizeof answer, &length);
+}
+
+static void house_settings(void)
+{
+    nurimkkot_house_settings(sheet);
+}
+
+static void read_settings(void)
+{
+    said = nurimkkot_read_settings(settings, sizeof settings, board, entries);
+}
+
+static void write_settings(void)
+{
+    said = nurimkkot_write_settings(2, 2, settings + 8, 8, sheet, sizeof settings, &length);
 }
 
 /* A stack, the call to make on it, and how many bytes it used: MARGIN where it used no more than that. */
@@ -117,8 +136,8 @@ static size_t less_than(size_t limit, const char *what, void (*call)(void), size
     return m.used > before ? m.used : before;
 }
 
-/* A register, or a combinational cell that reads four nets. Registers have two clk, two aclr, sclr and sload, and may have an ena. */
-static struct nurimkkot_cell cell_with(int i, uint16_t ena)
+/* A register, or a combinational cell that reads four nets. The registers of a LAB have two clk, two ena, two aclr, sclr and sload. */
+static struct nurimkkot_cell cell_of(int i)
 {
     struct nurimkkot_cell cell = {1, 0, {2051, 2049, 2047, 2045}};
     uint16_t other = (uint16_t)(2 * (i % 2));
@@ -126,7 +145,7 @@ static struct nurimkkot_cell cell_with(int i, uint16_t ena)
         cell.kind = 2;
         cell.signals[0] = 0;
         cell.signals[1] = (uint16_t)(4 + other);
-        cell.signals[2] = ena;
+        cell.signals[2] = (uint16_t)(16 + other);
         cell.signals[3] = (uint16_t)(8 + other);
         cell.signals[4] = 12;
         cell.signals[5] = 14;
@@ -136,18 +155,20 @@ static struct nurimkkot_cell cell_with(int i, uint16_t ena)
     return cell;
 }
 
-/* Fills both sheets, the list, and the cells and places to write. It does without memcpy and memset, so that the first call to be measured is
- * the first to use them: a program that binds them late does so there, on the same stack. */
-static void fill(uint16_t ena)
+/* Fills the sheets, the list, and the cells and places to write. Each of the eight entries serves these roles. It does without memcpy and
+ * memset, so that the first call to be measured is the first to use them: a program that binds them late does so there, on the same stack. */
+static void fill(uint8_t roles)
 {
     static const uint8_t exercise_head[9] = {'L', 'X', 'E', 1, 0, 0, 4, 0, 2}, answer_head[11] = {'L', 'X', 'A', 1, 0, 7, 0, 0, 0, 0, 2};
     int i, j;
+    for (i = 0; i < 8; i++)
+        settings[8 + i] = roles;
     for (i = 0; i < 9; i++)
         exercise[i] = exercise_head[i];
     for (i = 0; i < 11; i++)
         answer[i] = answer_head[i];
     for (i = 0; i < CELLS; i++) {
-        struct nurimkkot_cell cell = cell_with(i, ena);
+        struct nurimkkot_cell cell = cell_of(i);
         uint8_t *record = exercise + 9 + 24 * i, *place = answer + 11 + 4 * i;
         cells[i] = cell;
         if (i < LIST)
@@ -170,18 +191,18 @@ static void fill(uint16_t ena)
 /* The readers of both sheets. The first cell is a register, the last one combinational. Gives the most that one of them used. */
 static size_t readers(void)
 {
-    size_t reads = less_than(READER_LIMIT, "stack of nurimkkot_open_exercise", open_exercise, 0);
+    size_t reads = less_than(SMALL_LIMIT, "stack of nurimkkot_open_exercise", open_exercise, 0);
     int last;
-    reads = less_than(READER_LIMIT, "stack of nurimkkot_open_answer", open_answer, reads);
+    reads = less_than(SMALL_LIMIT, "stack of nurimkkot_open_answer", open_answer, reads);
     for (last = 0; last < 2; last++) {
         at = last ? CELLS - 1 : 0;
-        reads = less_than(READER_LIMIT, "stack of nurimkkot_next_cell", next_cell, reads);
+        reads = less_than(SMALL_LIMIT, "stack of nurimkkot_next_cell", next_cell, reads);
         expect(said == NURIMKKOT_GIVEN, "a cell of the exercise", at);
         at = last ? CELLS - 1 : 0;
-        reads = less_than(READER_LIMIT, "stack of nurimkkot_next_record", next_record, reads);
+        reads = less_than(SMALL_LIMIT, "stack of nurimkkot_next_record", next_record, reads);
         expect(said == NURIMKKOT_GIVEN && read_back.kind == (last ? 1 : 2), "a record of the exercise", at);
         at = last ? CELLS - 1 : 0;
-        reads = less_than(READER_LIMIT, "stack of nurimkkot_next_place", next_place, reads);
+        reads = less_than(SMALL_LIMIT, "stack of nurimkkot_next_place", next_place, reads);
         expect(said == NURIMKKOT_GIVEN, "a place of the answer", at);
     }
     return reads;
@@ -192,24 +213,42 @@ static void writers(size_t *exercises, size_t *answers)
 {
     *exercises = less_than(WRITE_EXERCISE_LIMIT, "stack of nurimkkot_write_exercise", write_exercise, 0);
     expect(said == 0 && length == sizeof exercise, "an exercise written", said);
-    *answers = less_than(WRITE_ANSWER_LIMIT, "stack of nurimkkot_write_answer", write_answer, 0);
+    *answers = less_than(SMALL_LIMIT, "stack of nurimkkot_write_answer", write_answer, 0);
     expect(said == 0 && length == sizeof answer, "an answer written", said);
     cells[CELLS - 1].signals[5] = 3;
     *exercises = less_than(WRITE_EXERCISE_LIMIT, "stack of nurimkkot_write_exercise", write_exercise, *exercises);
     expect(said == 15, "an exercise refused", said);
     places[3 * CELLS - 1] = 16;
-    *answers = less_than(WRITE_ANSWER_LIMIT, "stack of nurimkkot_write_answer", write_answer, *answers);
+    *answers = less_than(SMALL_LIMIT, "stack of nurimkkot_write_answer", write_answer, *answers);
     expect(said == 26, "an answer refused", said);
+}
+
+/* The functions of the settings sheet, with as many entries as there may be; then with a last one that is broken. Gives the most that one of
+ * them used. */
+static size_t boards(void)
+{
+    size_t used = less_than(SMALL_LIMIT, "stack of nurimkkot_house_settings", house_settings, 0);
+    expect(sheet[0] == 'L' && sheet[11] == 0x18, "document 01's board", sheet[11]);
+    used = less_than(SMALL_LIMIT, "stack of nurimkkot_read_settings", read_settings, used);
+    expect(said == 0 && board[NURIMKKOT_SETTINGS_ENTRIES] == 8, "a settings sheet read", said);
+    used = less_than(SMALL_LIMIT, "stack of nurimkkot_write_settings", write_settings, used);
+    expect(said == 0 && length == sizeof settings, "a settings sheet written", said);
+    settings[15] = 32;
+    used = less_than(SMALL_LIMIT, "stack of nurimkkot_read_settings", read_settings, used);
+    expect(said == 75, "a settings sheet that can't be read", said);
+    used = less_than(SMALL_LIMIT, "stack of nurimkkot_write_settings", write_settings, used);
+    expect(said == 75, "a settings sheet refused", said);
+    return used;
 }
 
 int main(void)
 {
-    size_t judges = 0, checks = 0, reads, exercises, answers;
-    int needs;
-    /* Six needs, which all get an entry; then seven, of which the last gets none. */
-    for (needs = 6; needs <= 7; needs++) {
-        uint8_t expected = needs == 6 ? 0 : 65;
-        fill(needs == 6 ? 0 : 16);
+    size_t judges = 0, checks = 0, reads, exercises, answers, settled;
+    int served;
+    /* Eight needs, which all get an entry; then the last of them, sload, gets none, and every other way is tried. */
+    for (served = 1; served >= 0; served--) {
+        uint8_t expected = served ? 0 : 65;
+        fill(served ? 31 : 31 - NURIMKKOT_SLOAD);
         checks = less_than(CHECK_LIMIT, "stack of nurimkkot_check_lab", check_lab, checks);
         expect(said == expected, "number of the list", said);
         judges = less_than(JUDGE_LIMIT, "stack of nurimkkot_judge", judge, judges);
@@ -218,8 +257,9 @@ int main(void)
     expect(checks > MARGIN && judges > MARGIN, "the measuring itself", (long)judges);
     reads = readers();
     writers(&exercises, &answers);
+    settled = boards();
     printf("C: stack: nurimkkot_judge %lu bytes, nurimkkot_check_lab %lu, a reader at most %lu, nurimkkot_write_exercise %lu, "
-           "nurimkkot_write_answer %lu\n", (unsigned long)judges, (unsigned long)checks, (unsigned long)reads, (unsigned long)exercises,
-           (unsigned long)answers);
+           "nurimkkot_write_answer %lu, the settings sheet at most %lu\n", (unsigned long)judges, (unsigned long)checks, (unsigned long)reads,
+           (unsigned long)exercises, (unsigned long)answers, (unsigned long)settled);
     return failures != 0;
 }

@@ -205,12 +205,12 @@ static void write_guarded(const char *what, const struct input *in, size_t room,
     free(block);
 }
 
-/* What the judge says of two sheets. */
+/* What the judge says of two sheets on document 01's board. */
 static uint64_t verdict(const uint8_t *exercise, size_t exercise_length, const uint8_t *answer, size_t answer_length)
 {
     static uint8_t route[NURIMKKOT_ROUTE_SIZE];
     uint64_t numbers[NURIMKKOT_NUMBERS];
-    nurimkkot_judge(exercise, exercise_length, answer, answer_length, route, sizeof route, numbers);
+    nurimkkot_judge(HOUSE, sizeof HOUSE, exercise, exercise_length, answer, answer_length, route, sizeof route, numbers);
     return numbers[NURIMKKOT_NUMBER];
 }
 

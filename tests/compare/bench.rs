@@ -1,15 +1,18 @@
 //! Time per judgement of the proved judge and of the Rust judge on the same
-//! sheets, how it grows with the number of cells, and what the least work takes in
-//! the same run; then the list check, the readers and the writers beside plain ones.
+//! sheets, also where the search for a way is long, how it grows with the number of
+//! cells, and what the least work takes in the same run; then the list check, the
+//! readers and the writers beside plain ones.
 
 mod generate;
 mod judge;
 mod plain;
 mod proved;
+mod settings;
 mod writer;
 
 use generate::*;
-use plain::{CellRecord, Step};
+use plain::{CellRecord, Settings, Step};
+use settings::HOUSE;
 use std::hint::black_box;
 use std::time::{Duration, Instant};
 
@@ -199,17 +202,17 @@ fn forms(rng: &mut Rng) {
             };
             let lists: Vec<Vec<CellRecord>> = inputs.iter().map(|(e, _)| list(e)).collect();
             for l in &lists {
-                assert_eq!(proved::check_lab(l).0, 0);
+                assert_eq!(proved::check_lab(&HOUSE, l).0, 0);
             }
             compare(
                 "check of one LAB",
                 size,
                 &lists,
                 |l| {
-                    black_box(proved::check_lab(l));
+                    black_box(proved::check_lab(&HOUSE, l));
                 },
                 |l| {
-                    black_box(plain::check_list(l));
+                    black_box(plain::check_list(&HOUSE, l));
                 },
             );
         }
@@ -364,6 +367,99 @@ fn row(what: &str, size: usize, proved: f64, plain: f64) {
     println!("{what:<31}{size:>6}{proved:>13.3}{plain:>13.3}{ratio:>8.2}");
 }
 
+/// Microseconds per judgement by the proved and by the Rust judge, in turn.
+fn judges(settings: &[u8], inputs: &[(Vec<u8>, Vec<u8>)]) -> (f64, f64) {
+    let mut route = vec![0u8; judge::ROUTE];
+    let mut other_route = route.clone();
+    let mut proved = |(e, a): &(Vec<u8>, Vec<u8>)| {
+        black_box(proved::judge(settings, e, a, &mut route));
+    };
+    let n = rounds(inputs, &mut proved);
+    let mut rust = |(e, a): &(Vec<u8>, Vec<u8>)| {
+        black_box(judge::judge(settings, e, a, &mut other_route));
+    };
+    let m = rounds(inputs, &mut rust);
+    let (mut left, mut right) = (Vec::new(), Vec::new());
+    // Fewer runs where a single round already fills the time.
+    let runs = if n == 1 { RUNS / 3 } else { RUNS };
+    for _ in 0..runs {
+        left.push(run(inputs, n, &mut proved));
+        right.push(run(inputs, m, &mut rust));
+    }
+    (median(left) / 1000.0, median(right) / 1000.0)
+}
+
+fn judged(
+    name: &str,
+    number: u32,
+    spread: &str,
+    [size, labs]: [usize; 2],
+    (proved, rust): (f64, f64),
+) {
+    let ratio = proved / rust;
+    println!(
+        "{name:<21}{number:>4}  {spread:<10}{size:>6}{labs:>6}{proved:>13.3}{rust:>13.3}{ratio:>8.2}"
+    );
+}
+
+/// 10,245 partial ways stand at or before the earliest way for eight needs, the most
+/// that a search over boards of eight entries found.
+const LATE_WAY: [u8; 8] = [31, 15, 7, 7, 7, 7, 7, 7];
+const LATE_ROUTE: [u8; 8] = [2, 3, 4, 5, 6, 7, 1, 0];
+/// Nothing serves sload, the last need: seven needs have 69,280 partial ways, the
+/// most that there can be without a way.
+const NO_WAY: [u8; 8] = [15; 8];
+
+/// Two registers of one LAB with eight needs, on boards of eight entries that make
+/// the search for a way long.
+fn search(rng: &mut Rng) {
+    for (name, entries, way) in [
+        ("search, late way", LATE_WAY, Some(LATE_ROUTE)),
+        ("search, no way", NO_WAY, None),
+    ] {
+        let settings = settings::sheet(&Settings {
+            version: 1,
+            board: 0,
+            entries: entries.to_vec(),
+        });
+        let mut inputs = Vec::new();
+        let mut route = vec![0u8; judge::ROUTE];
+        for _ in 0..VARIANTS {
+            let s = eight_needs(rng);
+            let lab = s.cells[0].lab();
+            let (e, a) = (s.exercise(), s.answer());
+            let v = proved::numbers(&judge::judge(&settings, &e, &a, &mut route));
+            match way {
+                Some(bytes) => assert_eq!((v[0], &route[8 * lab..8 * lab + 8]), (0, &bytes[..])),
+                None => assert_eq!((v[0], v[2]), (65, lab as u64)),
+            }
+            assert_eq!(proved::judge(&settings, &e, &a, &mut route), v);
+            inputs.push((e, a));
+        }
+        let number = if way.is_some() { 0 } else { 65 };
+        judged(name, number, "one LAB", [2, 1], judges(&settings, &inputs));
+    }
+}
+
+/// Two clk, two ena, two aclr, sclr and sload.
+fn eight_needs(rng: &mut Rng) -> Sheets {
+    let mut nets: Vec<u16> = (0..11).map(net).collect();
+    rng.shuffle(&mut nets);
+    let lab = rng.below(1024);
+    let mut cells = vec![Cell::new(REGISTER, lab, 0), Cell::new(REGISTER, lab, 1)];
+    for (j, c) in cells.iter_mut().enumerate() {
+        (c.s[CLK], c.s[ENA], c.s[ACLR]) = (nets[j], nets[2 + j], nets[4 + j]);
+        c.s[REGOUT] = nets[6 + j];
+    }
+    let c = &mut cells[0].s;
+    (c[SCLR], c[SLOAD], c[SDATA]) = (nets[8], nets[9], nets[10]);
+    Sheets {
+        nets: 11,
+        cells,
+        apprentice: 1 + rng.below(1000) as u32,
+    }
+}
+
 fn main() {
     let mut rng = Rng::new(1);
     let mut route = vec![0u8; judge::ROUTE];
@@ -393,7 +489,7 @@ fn main() {
                     l.dedup();
                     labs = l.len();
                     let (e, a) = (s.exercise(), s.answer());
-                    let v = proved::numbers(&judge::judge(&e, &a, &mut route));
+                    let v = proved::numbers(&judge::judge(&HOUSE, &e, &a, &mut route));
                     let highest = if v[0] >= 60 {
                         *l.last().unwrap() as u32
                     } else {
@@ -404,42 +500,17 @@ fn main() {
                     if outcome == Outcome::Shared {
                         assert_eq!(v[1], size as u64 - 1);
                     }
-                    assert_eq!(proved::judge(&e, &a, &mut route), v);
+                    assert_eq!(proved::judge(&HOUSE, &e, &a, &mut route), v);
                     inputs.push((e, a));
                 }
-                let mut proved = |(e, a): &(Vec<u8>, Vec<u8>)| {
-                    black_box(proved::judge(e, a, &mut route));
-                };
-                let n = rounds(&inputs, &mut proved);
-                let mut other_route = vec![0u8; judge::ROUTE];
-                let mut rust = |(e, a): &(Vec<u8>, Vec<u8>)| {
-                    black_box(judge::judge(e, a, &mut other_route));
-                };
-                let m = rounds(&inputs, &mut rust);
-                let (mut left, mut right) = (Vec::new(), Vec::new());
-                // Fewer runs where a single round already fills the time.
-                let runs = if n == 1 { RUNS / 3 } else { RUNS };
-                for _ in 0..runs {
-                    left.push(run(&inputs, n, &mut proved));
-                    right.push(run(&inputs, m, &mut rust));
-                }
-                let (p, y) = (median(left) / 1000.0, median(right) / 1000.0);
-                println!(
-                    "{:<21}{:>4}  {:<10}{:>6}{:>6}{:>13.3}{:>13.3}{:>8.2}",
-                    outcome.name(),
-                    outcome.number(),
-                    spread,
-                    size,
-                    labs,
-                    p,
-                    y,
-                    p / y
-                );
-                series.push((p, y));
+                let each = judges(&HOUSE, &inputs);
+                judged(outcome.name(), outcome.number(), spread, [size, labs], each);
+                series.push(each);
             }
             growth.push((outcome, spread, series));
         }
     }
+    search(&mut rng);
 
     println!();
     println!("growth: time at four times the cells over time before (4 is linear, 16 is square)");

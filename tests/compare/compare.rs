@@ -1,19 +1,22 @@
-//! Judges seeded pairs of sheets by the proved judge and by the Rust judge, reads
-//! them by the readers, checks the list of every LAB, writes them and others by the
-//! writers, and stops at the first difference.
+//! Judges seeded pairs of sheets, each on a board, by the proved judge and by the
+//! Rust judge, reads them by the readers, checks the list of every LAB, writes them
+//! and others by the writers, and stops at the first difference.
 //! Arguments: number of pairs (200000), seed (1).
 
+mod boards;
 mod faults;
 mod forms;
 mod generate;
 mod judge;
 mod plain;
 mod proved;
+mod settings;
 mod sync;
 mod writer;
 mod writes;
 
 use generate::*;
+use settings::HOUSE;
 use std::collections::HashSet;
 use std::fmt::Write;
 use std::process::exit;
@@ -60,6 +63,7 @@ impl Both {
     /// The agreed answer, or an account of the difference.
     fn run(
         &mut self,
+        settings: &[u8],
         exercise: &[u8],
         answer: &[u8],
         pattern: &[u8],
@@ -71,8 +75,10 @@ impl Both {
             b.extend_from_slice(whole);
         }
         let lent = GUARD..GUARD + route;
-        let a = proved::judge(exercise, answer, &mut self.left[lent.clone()]);
-        let b = proved::numbers(&judge::judge(exercise, answer, &mut self.right[lent]));
+        let left = &mut self.left[lent.clone()];
+        let a = proved::judge(settings, exercise, answer, left);
+        let right = &mut self.right[lent];
+        let b = proved::numbers(&judge::judge(settings, exercise, answer, right));
         let mut wrong = String::new();
         if a != b {
             wrong.push_str("the answers differ\n");
@@ -103,10 +109,32 @@ impl Both {
             return Ok(a);
         }
         let _ = writeln!(wrong, "proved: {}\nRust:   {}", describe(&a), describe(&b));
+        wrong.push_str(&hex("settings", settings));
         wrong.push_str(&hex("exercise", exercise));
         wrong.push_str(&hex("answer", answer));
         let _ = writeln!(wrong, "route buffer of {route} bytes");
         Err(wrong)
+    }
+
+    /// The proved judge on the pair that was just run, under the number of another
+    /// board with the same entries: nothing may change.
+    fn renumbered(
+        &mut self,
+        settings: &[u8],
+        case: &Case,
+        agreed: &[u64; 7],
+    ) -> Result<(), String> {
+        self.right.copy_from_slice(&self.before);
+        let lent = &mut self.right[GUARD..GUARD + case.route];
+        let n = proved::judge(settings, &case.exercise, &case.answer, lent);
+        if n == *agreed && self.right == self.left {
+            return Ok(());
+        }
+        let (was, is) = (describe(agreed), describe(&n));
+        let sheets = hex("settings", &case.settings) + &hex("renumbered", settings);
+        Err(format!(
+            "another board number changed the answer\nbefore: {was}\nafter:  {is}\n{sheets}"
+        ))
     }
 
     fn route(&self) -> &[u8] {
@@ -124,6 +152,7 @@ enum Expect {
 
 struct Example {
     name: String,
+    settings: Vec<u8>,
     sheets: Sheets,
     expect: Expect,
 }
@@ -185,6 +214,7 @@ fn examples() -> Vec<Example> {
     let mut add = |name: &str, sheets: Sheets, expect: Expect| {
         list.push(Example {
             name: name.to_string(),
+            settings: HOUSE.to_vec(),
             sheets,
             expect,
         })
@@ -425,16 +455,17 @@ fn examples() -> Vec<Example> {
         };
         add(&format!("{n} cells"), s, expect);
     }
+    list.extend(boards::examples());
     list
 }
 
-fn run_examples(both: &mut Both, pattern: &[u8]) {
+fn run_examples(both: &mut Both, rng: &mut Rng, pattern: &[u8]) {
     let all = examples();
     let mut seen = forms::Counts::new();
     for x in &all {
         let (e, a) = (x.sheets.exercise(), x.sheets.answer());
         let got = both
-            .run(&e, &a, pattern, judge::ROUTE)
+            .run(&x.settings, &e, &a, pattern, judge::ROUTE)
             .unwrap_or_else(|wrong| {
                 print!("example {}: {wrong}", x.name);
                 exit(1);
@@ -446,7 +477,10 @@ fn run_examples(both: &mut Both, pattern: &[u8]) {
                 Some(routes),
             ),
             Expect::Refused(number, cell, lab, [sheet, start, size]) => {
-                let apprentice = if *number < 24 { 0 } else { x.sheets.apprentice };
+                let apprentice = match number {
+                    1..=23 | 70..=75 => 0,
+                    _ => x.sheets.apprentice,
+                };
                 (
                     [
                         *number,
@@ -485,10 +519,15 @@ fn run_examples(both: &mut Both, pattern: &[u8]) {
             exit(1);
         }
         let said = said_of(&got);
-        if let Err(wrong) = forms::labs(&mut seen, &e, &a, both.route(), &said) {
+        if let Err(wrong) = forms::labs(&mut seen, rng, &x.settings, &e, &a, both.route(), &said) {
             print!("example {}, list check: {wrong}", x.name);
             exit(1);
         }
+    }
+    let house = proved::house_settings();
+    if house != HOUSE {
+        print!("{}", hex("other house settings", &house));
+        exit(1);
     }
     println!(
         "{} settled examples agree, and the lists of {} of their LABs",
@@ -505,18 +544,65 @@ fn said_of(n: &[u64; 7]) -> forms::Said {
     }
 }
 
-/// The readers on both sheets, the list of each LAB, and a list of no LAB.
+/// The readers on both sheets, the list of each LAB, and a list of no LAB on the
+/// same board and often on another. `alone` is said of the two sheets alone.
 fn compare_forms(
     seen: &mut forms::Counts,
     rng: &mut Rng,
     case: &Case,
-    n: &[u64; 7],
+    [n, alone]: [&[u64; 7]; 2],
     route: &[u8],
 ) -> Result<(), String> {
+    let (exercise, answer) = (&case.exercise, &case.answer);
+    forms::readers(seen, rng, exercise, answer, &said_of(alone))?;
     let said = said_of(n);
-    forms::readers(seen, rng, &case.exercise, &case.answer, &said)?;
-    forms::labs(seen, &case.exercise, &case.answer, route, &said)?;
-    forms::list(seen, &forms::any_list(rng, &case.exercise)).map(|_| ())
+    forms::labs(seen, rng, &case.settings, exercise, answer, route, &said)?;
+    let list = forms::any_list(rng, exercise);
+    forms::list(seen, &case.settings, &list)?;
+    if rng.percent(50) {
+        return Ok(());
+    }
+    let mut other = settings::sheet(&settings::board(rng).0);
+    if rng.percent(20) {
+        other = settings::bent(rng, &other);
+    }
+    forms::list(seen, &other, &list)?;
+    forms::read_settings(seen, &other).map(|_| ())
+}
+
+/// The settings sheet by its readers, beside the verdict; then the pair again under
+/// another board number, now and then.
+fn compare_boards(
+    boards: &mut settings::Counts,
+    seen: &mut forms::Counts,
+    rng: &mut Rng,
+    both: &mut Both,
+    case: &Case,
+    [n, alone]: [&[u64; 7]; 2],
+) -> Result<(), String> {
+    let number = n[0] as u8;
+    let read = forms::read_settings(seen, &case.settings)?;
+    let refused = match number {
+        70..=75 => number,
+        _ => 0,
+    };
+    match read {
+        Err(_) if number == 1 => boards.buffer += 1,
+        Err(told) => {
+            forms::same("the judge on the settings", told, refused)?;
+            boards.beside += (alone[0] != 0) as u64;
+        }
+        Ok(board) => {
+            forms::same("the judge on the settings", 0, refused)?;
+            boards.note(&board, case.board, number);
+            if rng.percent(10) {
+                let sheet = settings::sheet(&settings::renumbered(rng, &board));
+                both.renumbered(&sheet, case, n)?;
+                boards.renumbered += 1;
+            }
+        }
+    }
+    Ok(())
 }
 
 /// One line; gives whether some number did not occur.
@@ -542,14 +628,21 @@ fn report_forms(seen: &forms::Counts) -> bool {
         missing |= n.contains(&0);
     }
     missing |= by_number(
+        "settings sheets read, by number",
+        &seen.settings,
+        &[0, 70, 71, 72, 73, 74, 75],
+    );
+    missing |= by_number(
         "lists, by number",
         &seen.lists,
-        &[0, 18, 60, 61, 62, 63, 64, 65],
+        &[0, 18, 70, 71, 72, 73, 74, 75, 60, 61, 62, 63, 64, 65],
     );
     println!(
         "lists of a LAB of which the judge says the same: {}",
         seen.judged
     );
+    missing |= rising("LABs of legal answers, by needs", &seen.needs);
+    missing |= rising("their needs, by entry", &seen.entries);
     missing |= report_sync("judge", &seen.lab_sync);
     missing |= report_sync("list check", &seen.list_sync);
     missing || seen.judged == 0
@@ -574,6 +667,32 @@ fn by_name(title: &str, names: &[&str], counts: &[u64]) -> bool {
     counts.contains(&0)
 }
 
+/// One line, from 0 on; gives whether one did not occur.
+fn rising(title: &str, counts: &[u64]) -> bool {
+    let names: Vec<String> = (0..counts.len()).map(|n| n.to_string()).collect();
+    let names: Vec<&str> = names.iter().map(|n| &n[..]).collect();
+    by_name(title, &names, counts)
+}
+
+/// The same for the boards.
+fn report_boards(seen: &settings::Counts) -> bool {
+    let kinds = settings::KINDS.map(|k| k.1);
+    let mut missing = by_name("boards judged on", &kinds, &seen.kinds);
+    missing |= by_name("  by version", &["1", "2"], &seen.versions);
+    missing |= rising("  by entries", &seen.entries);
+    missing |= rising("  legal, by entries", &seen.legal);
+    missing |= rising("  65, by entries", &seen.no_way);
+    for (what, n) in [
+        ("judged again under another board number", seen.renumbered),
+        ("70 to 75 beside another fault", seen.beside),
+        ("1 beside a settings sheet that is none", seen.buffer),
+    ] {
+        println!("{what}: {n}");
+        missing |= n == 0;
+    }
+    missing
+}
+
 /// The same for the writers.
 fn report_writes(seen: &writes::Counts) -> bool {
     let mut missing = by_number(
@@ -587,12 +706,18 @@ fn report_writes(seen: &writes::Counts) -> bool {
         &seen.answers,
         &[0, 2, 13, 23, 26],
     );
+    missing |= by_number(
+        "calls of the settings writer, by number",
+        &seen.settings,
+        &[0, 72, 73, 75, 2],
+    );
+    println!("72 for the board and not for the version: {}", seen.boards);
     println!(
         "faults planted alone, refused with their number: {} of {} kinds",
         seen.faults.iter().sum::<u64>(),
         seen.faults.len()
     );
-    for (what, [exercises, answers]) in [
+    for (what, [exercises, answers, settings]) in [
         (
             "sheets written, read, judged and written again",
             seen.circles,
@@ -602,10 +727,10 @@ fn report_writes(seen: &writes::Counts) -> bool {
             seen.kept,
         ),
     ] {
-        println!("{what}: {exercises} exercises, {answers} answers");
-        missing |= exercises == 0 || answers == 0;
+        println!("{what}: {exercises} exercises, {answers} answers, {settings} settings");
+        missing |= exercises == 0 || answers == 0 || settings == 0;
     }
-    missing || seen.nets == 0 || seen.faults.contains(&0)
+    missing || seen.nets == 0 || seen.boards == 0 || seen.faults.contains(&0)
 }
 
 fn main() {
@@ -624,14 +749,16 @@ fn main() {
     let longest = 16384 + 2 * GUARD;
     let pattern: Vec<u8> = (0..longest + 4096).map(|_| rng.byte()).collect();
     let mut both = Both::new();
-    run_examples(&mut both, &pattern);
+    // The forms and the writes take nothing from the numbers that the pairs are
+    // made of.
+    let mut other = Rng::new(!seed);
+    run_examples(&mut both, &mut other, &pattern);
 
     let mut counts = [0u64; 256];
     let mut places = HashSet::new();
     let mut seen = forms::Counts::new();
-    // The forms and the writes take nothing from the numbers that the pairs are
-    // made of.
-    let mut other = Rng::new(!seed);
+    let mut boards = settings::Counts::new();
+    let mut spare = vec![0; judge::ROUTE];
     let mut third = Rng::new(seed ^ 0x5555_5555);
     let mut writes = writes::Writes::new();
     match writes.settled(&mut third) {
@@ -662,18 +789,30 @@ fn main() {
             println!("pair {i} of seed {seed} ({}): {wrong}", case.name);
             exit(1);
         };
+        let (exercise, answer) = (&case.exercise, &case.answer);
         let n = both
-            .run(&case.exercise, &case.answer, fill, case.route)
+            .run(&case.settings, exercise, answer, fill, case.route)
             .unwrap_or_else(|wrong| fail(wrong));
         counts[n[0] as usize] += 1;
         let place = if n[0] >= 60 { n[2] } else { n[1] };
         if place != NO {
             places.insert((n[0], place));
         }
-        let compared = compare_forms(&mut seen, &mut other, &case, &n, both.route())
-            .and_then(|()| writes.sheets(&mut third, fill, &case, n[0] as u8));
+        // What the Rust judge says of the two sheets where it did not come to them.
+        let alone = match n[0] {
+            1 | 70..=75 => proved::numbers(&judge::judge(&HOUSE, exercise, answer, &mut spare)),
+            _ => n,
+        };
+        let said = [&n, &alone];
+        let compared = compare_forms(&mut seen, &mut other, &case, said, both.route())
+            .and_then(|()| {
+                compare_boards(&mut boards, &mut seen, &mut other, &mut both, &case, said)
+            })
+            .and_then(|()| writes.sheets(&mut third, fill, &case, alone[0] as u8));
         if let Err(wrong) = compared {
-            let sheets = hex("exercise", &case.exercise) + &hex("answer", &case.answer);
+            let sheets = hex("settings", &case.settings)
+                + &hex("exercise", exercise)
+                + &hex("answer", answer);
             fail(wrong + &sheets);
         }
         if let Err(wrong) = writes.made(&mut third, fill) {
@@ -692,6 +831,7 @@ fn main() {
         println!("{n:>6} {:>8}  {seen:>8}", counts[n as usize]);
         missing |= counts[n as usize] == 0;
     }
+    missing |= report_boards(&boards);
     missing |= report_forms(&seen);
     missing |= report_writes(&writes.counts);
     if missing {

@@ -1,8 +1,9 @@
-//! Records and places for the writers: good ones, ones with a fault of each kind,
-//! with several, and fields at random.
+//! Records, places and boards for the writers: good ones, ones with a fault of each
+//! kind, with several, and fields at random.
 
 use crate::generate::*;
-use crate::plain::CellRecord;
+use crate::plain::{CellRecord, Settings};
+use crate::settings;
 use std::ops::Range;
 
 #[derive(Clone, Copy, PartialEq)]
@@ -23,12 +24,16 @@ pub enum Fault {
     X,
     Y,
     Element,
+    Version,
+    BoardOfFirst,
+    Entries,
+    Flags,
 }
 
 use Fault::*;
 
 /// Every fault, with the number that it alone gives.
-pub const FAULTS: [(Fault, u8); 16] = [
+pub const FAULTS: [(Fault, u8); 20] = [
     (Nets, 13),
     (Kind, 15),
     (CombinationalFlag, 15),
@@ -45,11 +50,16 @@ pub const FAULTS: [(Fault, u8); 16] = [
     (X, 26),
     (Y, 26),
     (Element, 26),
+    (Version, 72),
+    (BoardOfFirst, 72),
+    (Entries, 73),
+    (Flags, 75),
 ];
 const OF_EXERCISE: Range<usize> = 0..12;
 const OF_ANSWER: Range<usize> = 12..16;
+const OF_SETTINGS: Range<usize> = 16..20;
 
-/// What is known of records or places.
+/// What is known of records, places or a board.
 #[derive(Clone, Copy)]
 pub enum Known {
     Good,
@@ -309,5 +319,47 @@ impl Placing {
         for v in self.places.as_flattened_mut() {
             *v = rng.below(most) as u16;
         }
+    }
+}
+
+/// What the settings writer takes.
+impl Settings {
+    pub fn some(rng: &mut Rng) -> (Settings, Known) {
+        let (good, _) = settings::board(rng);
+        bend(rng, OF_SETTINGS, good, Settings::plant, Settings::scatter)
+    }
+
+    fn plant(&mut self, rng: &mut Rng, fault: Fault) -> bool {
+        let n = self.entries.len();
+        // Some would be good by a byte of theirs.
+        match fault {
+            Version => self.version = rng.pick(&[0, 3, 4, 255, 256, 257, 258, 512, 513, 65535]),
+            BoardOfFirst => {
+                self.version = 1;
+                self.board = rng.pick(&[1, 2, 255, 256, 32768, 65535]);
+            }
+            Entries => {
+                let n = rng.pick(&[9, 9, 10, 16, 255, 256, 257, 264, 300]);
+                self.entries.resize_with(n, || rng.below(32) as u8);
+            }
+            _ if n == 0 => return false,
+            _ => {
+                let flags = &mut self.entries[some(rng, n)];
+                *flags = match rng.below(3) {
+                    0 => 32,
+                    1 => *flags | rng.pick(&[32, 64, 128]),
+                    _ => rng.range(32, 255) as u8,
+                };
+            }
+        }
+        true
+    }
+
+    fn scatter(&mut self, rng: &mut Rng) {
+        self.version = rng.below(4) as u16;
+        self.board = rng.pick(&[0, 0, 1, 65535]);
+        let most = rng.pick(&[32, 34, 256]);
+        let n = rng.below(12);
+        self.entries = (0..n).map(|_| rng.below(most) as u8).collect();
     }
 }

@@ -2,11 +2,12 @@
 //! the Rust judge says of the same sheets.
 
 use crate::generate::*;
-use crate::plain::{self, CellRecord, Step};
+use crate::plain::{self, CellRecord, Settings, Step};
 use crate::proved;
+use crate::settings;
 use crate::sync;
 
-/// Number, cell and LAB of the Rust judge's verdict.
+/// Number, cell and LAB of a verdict.
 pub struct Said {
     pub number: u8,
     pub cell: u16,
@@ -19,9 +20,14 @@ pub struct Counts {
     pub cells: [u64; 3],
     pub records: [u64; 3],
     pub places: [u64; 3],
+    /// Settings sheets read, 0 for good ones.
+    pub settings: [u64; 256],
     pub lists: [u64; 256],
     /// Lists of a LAB of which the Rust judge says the same.
     pub judged: u64,
+    /// LABs of legal answers by their needs, and their needs by entry.
+    pub needs: [u64; 9],
+    pub entries: [u64; settings::MOST],
     /// Rule 63 in all lists, and in the LABs of which the Rust judge says the same.
     pub list_sync: sync::Counts,
     pub lab_sync: sync::Counts,
@@ -34,11 +40,20 @@ impl Counts {
             cells: [0; 3],
             records: [0; 3],
             places: [0; 3],
+            settings: [0; 256],
             lists: [0; 256],
             judged: 0,
+            needs: [0; 9],
+            entries: [0; settings::MOST],
             list_sync: sync::Counts::new(),
             lab_sync: sync::Counts::new(),
         }
+    }
+
+    fn routed(&mut self, bytes: &[u8; 8]) {
+        let given = || bytes.iter().filter(|&&b| b != 255);
+        self.needs[given().count()] += 1;
+        given().for_each(|&b| self.entries[b as usize] += 1);
     }
 }
 
@@ -88,7 +103,16 @@ pub fn same<T: PartialEq + std::fmt::Debug>(what: &str, got: T, want: T) -> Resu
     Err(format!("{what}: got {got:?}, wanted {want:?}\n"))
 }
 
-/// Both readers on both sheets, beside the verdict of the Rust judge.
+/// Both readers of a settings sheet; gives what they read, or the number.
+pub fn read_settings(counts: &mut Counts, sheet: &[u8]) -> Result<Result<Settings, u8>, String> {
+    let read = proved::read_settings(sheet);
+    same("reading the settings", &read, &plain::read_settings(sheet))?;
+    counts.settings[read.as_ref().err().map_or(0, |&n| n as usize)] += 1;
+    Ok(read)
+}
+
+/// Both readers on both sheets, beside what the Rust judge says of them on a board
+/// and with a route buffer.
 pub fn readers(
     counts: &mut Counts,
     rng: &mut Rng,
@@ -109,7 +133,6 @@ pub fn readers(
     }
     match number {
         10..=14 => same("the judge on the exercise", opened[0], number)?,
-        1 => {}
         20..=23 | 25 => same("the judge on the answer", opened[1], number)?,
         _ => {
             same("the judge on the exercise", opened[0], 0)?;
@@ -184,10 +207,16 @@ pub fn readers(
 }
 
 /// One list by both checks.
-pub fn list(counts: &mut Counts, list: &[CellRecord]) -> Result<(u8, [u8; 8]), String> {
-    let (a, b) = (proved::check_lab(list), plain::check_list(list));
+pub fn list(
+    counts: &mut Counts,
+    settings: &[u8],
+    list: &[CellRecord],
+) -> Result<(u8, [u8; 8]), String> {
+    let a = proved::check_lab(settings, list);
+    let b = plain::check_list(settings, list);
     if a != b {
         let mut text = format!("the list checks differ: proved {a:?}, plain {b:?}\n");
+        text.push_str(&format!("  settings {settings:02x?}\n"));
         for c in list {
             text.push_str(&format!("  {c:?}\n"));
         }
@@ -206,15 +235,18 @@ pub fn records(exercise: &[u8]) -> Vec<CellRecord> {
 
 /// The list of every LAB: where the Rust judge came as far as the LABs, each LAB
 /// up to the one it names has the judge's number, and on a legal answer its bytes.
+/// Now and then also under a bent settings sheet.
 pub fn labs(
     counts: &mut Counts,
+    rng: &mut Rng,
+    settings: &[u8],
     exercise: &[u8],
     answer: &[u8],
     route: &[u8],
     verdict: &Said,
 ) -> Result<(), String> {
     let number = verdict.number;
-    if number != 0 && number < 60 {
+    if number != 0 && !(60..=65).contains(&number) {
         return Ok(());
     }
     let cells = records(exercise);
@@ -227,11 +259,19 @@ pub fn labs(
             .filter(|&i| lab_of(i) == lab)
             .map(|i| cells[i])
             .collect();
-        let (found, bytes) = list(counts, &own)?;
+        if rng.percent(10) {
+            let bent = settings::bent(rng, settings);
+            let (found, _) = list(counts, &bent, &own)?;
+            if let Err(refused) = read_settings(counts, &bent)? {
+                same("the list under these settings", found, refused)?;
+            }
+        }
+        let (found, bytes) = list(counts, settings, &own)?;
         let broken = verdict.lab as usize;
         if number == 0 {
             same("the list of a legal LAB", found, 0)?;
             same("its bytes", &bytes[..], &route[8 * lab..8 * lab + 8])?;
+            counts.routed(&bytes);
         } else if lab < broken {
             same("the list of a lower LAB", found, 0)?;
         } else if lab == broken {

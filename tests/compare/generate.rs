@@ -1,10 +1,13 @@
-//! Seeded pairs of sheets: valid ones, ones aimed at each verdict number, noise.
+//! Seeded pairs of sheets, each on a board: valid ones, ones aimed at each verdict
+//! number, noise.
 #![allow(dead_code)]
 
+use crate::settings;
+
 /// Every verdict number of the judge of two sheets.
-pub const NUMBERS: [u8; 35] = [
-    0, 1, 10, 11, 12, 13, 14, 15, 16, 20, 21, 22, 23, 24, 25, 26, 30, 31, 32, 33, 34, 35, 40, 41,
-    42, 43, 44, 50, 51, 60, 61, 62, 63, 64, 65,
+pub const NUMBERS: [u8; 41] = [
+    0, 1, 70, 71, 72, 73, 74, 75, 10, 11, 12, 13, 14, 15, 16, 20, 21, 22, 23, 24, 25, 26, 30, 31,
+    32, 33, 34, 35, 40, 41, 42, 43, 44, 50, 51, 60, 61, 62, 63, 64, 65,
 ];
 
 pub const COMBINATIONAL: u8 = 1;
@@ -213,6 +216,9 @@ impl Sheets {
 
 pub struct Case {
     pub name: &'static str,
+    pub settings: Vec<u8>,
+    /// The board's kind, by its place in settings::KINDS.
+    pub board: usize,
     pub exercise: Vec<u8>,
     pub answer: Vec<u8>,
     pub route: usize,
@@ -232,32 +238,18 @@ impl Control {
         self.pairs.len().max(self.aclr.len()).max(self.sync.len())
     }
 
-    /// Whether each need can have an entry of its own.
-    fn has_way(&self) -> bool {
-        const SERVES: [&[usize]; 5] = [&[0, 1, 2], &[2, 3], &[1, 4], &[4, 5], &[3, 5]];
-        fn search(needs: &[usize], taken: usize) -> bool {
-            match needs.split_first() {
-                None => true,
-                Some((&role, rest)) => SERVES[role]
-                    .iter()
-                    .any(|&e| taken & (1 << e) == 0 && search(rest, taken | (1 << e))),
-            }
-        }
-        let mut needs = Vec::new();
-        let clk: Vec<u16> = self.pairs.iter().map(|p| p.0).collect();
-        let ena: Vec<u16> = self.pairs.iter().map(|p| p.1).collect();
-        let sload: Vec<u16> = self.sync.iter().map(|p| p.0).collect();
-        let sclr: Vec<u16> = self.sync.iter().map(|p| p.1).collect();
-        for (role, list) in [&clk, &ena, &self.aclr, &sclr, &sload]
-            .into_iter()
-            .enumerate()
-        {
-            let mut l: Vec<u16> = list.iter().copied().filter(|&v| v >= 4).collect();
-            l.sort_unstable();
-            l.dedup();
-            needs.extend(l.iter().map(|_| role));
-        }
-        needs.len() <= 6 && search(&needs, 0)
+    /// How many needs each role has.
+    fn needs(&self) -> [usize; 5] {
+        let clk = self.pairs.iter().map(|p| p.0).collect();
+        let ena = self.pairs.iter().map(|p| p.1).collect();
+        let sclr = self.sync.iter().map(|p| p.1).collect();
+        let sload = self.sync.iter().map(|p| p.0).collect();
+        [clk, ena, self.aclr.clone(), sclr, sload].map(|mut list: Vec<u16>| {
+            list.retain(|&v| v >= net(0));
+            list.sort_unstable();
+            list.dedup();
+            list.len()
+        })
     }
 }
 
@@ -327,10 +319,17 @@ fn unlike_sync(rng: &mut Rng, pool: &[u16], share: usize) -> Vec<(u16, u16)> {
 }
 
 /// Control signals that keep 60 to 63 and 65 (`want` 0), or break the wanted rule
-/// and perhaps later ones.
-fn control(rng: &mut Rng, pool: &[u16], want: u8) -> Control {
-    let share = rng.pick(&[0, 10, 30]);
+/// and perhaps later ones; whether 65 goes as wanted is left to a board on which
+/// that is hard.
+fn control(rng: &mut Rng, board: &[u8], pool: &[u16], want: u8) -> Control {
+    let mut share = rng.pick(&[0, 10, 30]);
     let mut busy = rng.pick(&[30, 60, 90]);
+    // Other boards than document 01's may break 65 at once.
+    let mut draws = if board == settings::HOUSE_ENTRIES || rng.percent(70) {
+        40
+    } else {
+        rng.range(1, 4)
+    };
     loop {
         let over = |rng: &mut Rng, rule: u8| {
             want == rule || (want != 0 && want < rule && want < 64 && rng.percent(15))
@@ -365,19 +364,23 @@ fn control(rng: &mut Rng, pool: &[u16], want: u8) -> Control {
         };
         let c = Control { pairs, aclr, sync };
         let fits = match want {
-            0 | 64 => c.has_way(),
-            65 => !c.has_way(),
+            0 | 64 => settings::has_way(board, c.needs()),
+            65 => !settings::has_way(board, c.needs()),
             _ => true,
         };
-        if fits {
+        draws -= 1;
+        if fits || draws == 0 {
             return c;
         }
-        // Draw again, rather more or fewer signals.
+        // Draw again, rather more or fewer signals, in the end more constants.
         busy = if want == 65 {
             (busy + 10).min(95)
         } else {
             busy.saturating_sub(10).max(10)
         };
+        if want != 65 && draws < 32 {
+            share = (share + 5).min(90);
+        }
     }
 }
 
@@ -629,9 +632,9 @@ fn small_size(rng: &mut Rng) -> usize {
     }
 }
 
-/// Sheets of about `size` cells that keep all rules, except that one LAB breaks
-/// the wanted one of 60 to 65.
-fn build(rng: &mut Rng, size: usize, labs: usize, chains: usize, want: u8) -> Sheets {
+/// Sheets of about `size` cells that keep all rules on the board, except that one
+/// LAB breaks the wanted one of 60 to 65.
+fn build(rng: &mut Rng, board: &[u8], size: usize, labs: usize, chains: usize, want: u8) -> Sheets {
     let labs = some_labs(rng, labs);
     let broken = match rng.below(4) {
         0 => 0,
@@ -659,7 +662,7 @@ fn build(rng: &mut Rng, size: usize, labs: usize, chains: usize, want: u8) -> Sh
     for (k, &lab) in labs.iter().enumerate() {
         let is_broken = want != 0 && k == broken;
         let pool = b.pool.clone();
-        let c = control(b.rng, &pool, if is_broken { want } else { 0 });
+        let c = control(b.rng, board, &pool, if is_broken { want } else { 0 });
         let mut registers = b.rng.range(share.saturating_sub(16).min(16), share.min(16));
         let mut combinational = share.saturating_sub(registers).min(16);
         if is_broken {
@@ -1199,17 +1202,17 @@ fn random_bytes(rng: &mut Rng, mark: &[u8; 3], head: usize, record: usize) -> Ve
     b
 }
 
-fn sized(rng: &mut Rng, chains: usize, want: u8) -> Sheets {
+fn sized(rng: &mut Rng, board: &[u8], chains: usize, want: u8) -> Sheets {
     let size = small_size(rng);
     let labs = rng.range(1, 1 + size.min(7));
-    build(rng, size, labs, chains, want)
+    build(rng, board, size, labs, chains, want)
 }
 
 /// Exactly 512 cells, over 16 to 512 LABs.
-fn largest(rng: &mut Rng, want: u8) -> Sheets {
+fn largest(rng: &mut Rng, board: &[u8], want: u8) -> Sheets {
     let labs = rng.pick(&[16, 17, 20, 40, 100, 300, 512]);
     let chains = if labs < 40 { 0 } else { rng.below(20) };
-    let mut s = build(rng, 900, labs, chains, want);
+    let mut s = build(rng, board, 900, labs, chains, want);
     // Cutting to 512 may leave a carry with one end; take it away.
     let driven: Vec<u16> = s
         .cells
@@ -1235,14 +1238,14 @@ fn largest(rng: &mut Rng, want: u8) -> Sheets {
 }
 
 /// A full LAB with a carry coming in over its border.
-fn full_fed(rng: &mut Rng) -> Sheets {
+fn full_fed(rng: &mut Rng, board: &[u8]) -> Sheets {
     let mut b = Builder::new(rng);
     let lab = b.rng.below(992);
     let le = b.rng.range(12, 15);
     let length = 16 - le + b.rng.range(1, 8);
     b.chain(lab + 32, le, length);
     let pool = b.pool.clone();
-    let c = control(b.rng, &pool, 0);
+    let c = control(b.rng, board, &pool, 0);
     for j in 0..b.rng.range(4, 16) {
         b.register(lab, &c, j);
     }
@@ -1253,12 +1256,12 @@ fn full_fed(rng: &mut Rng) -> Sheets {
 }
 
 /// Full LABs reading 37 to 40 nets from outside.
-fn full(rng: &mut Rng) -> Sheets {
+fn full(rng: &mut Rng, board: &[u8]) -> Sheets {
     let labs = rng.range(1, 3);
     let mut s = if rng.percent(35) {
-        full_fed(rng)
+        full_fed(rng, board)
     } else {
-        build(rng, 32 * labs, labs, 0, 0)
+        build(rng, board, 32 * labs, labs, 0, 0)
     };
     for lab in s.labs() {
         if rng.percent(70) {
@@ -1270,15 +1273,18 @@ fn full(rng: &mut Rng) -> Sheets {
 }
 
 /// Sheets and perhaps bytes bent towards one number.
-fn aim(rng: &mut Rng, number: u8) -> (Vec<u8>, Vec<u8>) {
+fn aim(rng: &mut Rng, board: &[u8], number: u8) -> (Vec<u8>, Vec<u8>) {
     let chains = match number {
         40..=44 | 51 => rng.range(1, 3),
         _ => rng.percent(30) as usize,
     };
-    let mut s = sized(rng, chains, if number >= 60 { number } else { 0 });
-    if number < 60 {
-        aim_cells(rng, number, &mut s);
-    }
+    let want = if (60..=65).contains(&number) {
+        number
+    } else {
+        0
+    };
+    let mut s = sized(rng, board, chains, want);
+    aim_cells(rng, number, &mut s);
     let (mut e, mut a) = (s.exercise(), s.answer());
     aim_head(rng, number, &mut e, &mut a);
     (e, a)
@@ -1287,11 +1293,14 @@ fn aim(rng: &mut Rng, number: u8) -> (Vec<u8>, Vec<u8>) {
 pub fn case(rng: &mut Rng) -> Case {
     let plain = |s: Sheets| (s.exercise(), s.answer());
     let mut route = 8192;
+    let (good, mut kind) = settings::board(rng);
+    let board = &good.entries[..];
+    let mut sheet = settings::sheet(&good);
     let (name, (exercise, answer)) = match rng.below(1000) {
         0..=39 => ("random bytes", {
             let e = random_bytes(rng, b"LXE", 9, 24);
             let a = random_bytes(rng, b"LXA", 11, 4);
-            let s = sized(rng, 0, 0);
+            let s = sized(rng, board, 0, 0);
             match rng.below(3) {
                 0 => (e, a),
                 1 => (s.exercise(), a),
@@ -1301,23 +1310,23 @@ pub fn case(rng: &mut Rng) -> Case {
         40..=69 => ("random records", plain(noise(rng))),
         70..=219 => ("valid", {
             let chains = rng.below(3);
-            plain(sized(rng, chains, 0))
+            plain(sized(rng, board, chains, 0))
         }),
         220..=299 => ("one byte changed", {
             let chains = rng.below(2);
-            let (mut e, mut a) = plain(sized(rng, chains, 0));
+            let (mut e, mut a) = plain(sized(rng, board, chains, 0));
             let b = if rng.percent(60) { &mut e } else { &mut a };
             change_byte(rng, b);
             (e, a)
         }),
         300..=369 => ("one field changed", {
             let chains = rng.below(2);
-            let mut s = sized(rng, chains, 0);
+            let mut s = sized(rng, board, chains, 0);
             change_field(rng, &mut s);
             plain(s)
         }),
         370..=409 => ("truncated or extended", {
-            let (mut e, mut a) = plain(sized(rng, 0, 0));
+            let (mut e, mut a) = plain(sized(rng, board, 0, 0));
             let b = if rng.percent(50) { &mut e } else { &mut a };
             if rng.percent(50) {
                 b.truncate(rng.below(b.len() + 1));
@@ -1331,12 +1340,12 @@ pub fn case(rng: &mut Rng) -> Case {
         465..=579 => ("control signals", {
             let want = rng.pick(&[0, 0, 0, 65, 65, 60, 61, 62, 63]);
             let (size, labs) = (rng.range(2, 14), rng.range(1, 4));
-            plain(build(rng, size, labs, 0, want))
+            plain(build(rng, board, size, labs, 0, want))
         }),
-        580..=609 => ("full LABs", plain(full(rng))),
+        580..=609 => ("full LABs", plain(full(rng, board))),
         610..=621 => ("512 cells", {
             let want = rng.pick(&[0, 0, 0, 0, 0, 60, 61, 62, 63, 64, 65]);
-            let mut s = largest(rng, want);
+            let mut s = largest(rng, board, want);
             if rng.percent(60) {
                 let number = rng.range(15, 51) as u8;
                 aim_cells(rng, number, &mut s);
@@ -1350,7 +1359,7 @@ pub fn case(rng: &mut Rng) -> Case {
             } else {
                 0
             };
-            let mut s = sized(rng, chains, want);
+            let mut s = sized(rng, board, chains, want);
             for _ in 0..rng.range(2, 4) {
                 let number = rng.pick(&NUMBERS);
                 aim_cells(rng, number, &mut s);
@@ -1375,11 +1384,27 @@ pub fn case(rng: &mut Rng) -> Case {
             } else {
                 number
             };
-            aim(rng, number)
+            if number < 70 {
+                aim(rng, board, number)
+            } else {
+                settings::aim(rng, number, &mut sheet);
+                // Beside a fault of the two sheets, or none.
+                let other = rng.pick(&NUMBERS);
+                aim(rng, board, other)
+            }
         }),
     };
+    // Beside whatever else the pair has.
+    if rng.percent(6) {
+        sheet = settings::bent(rng, &sheet);
+    }
+    if sheet != settings::sheet(&good) {
+        kind = settings::KINDS.len() - 1;
+    }
     Case {
         name,
+        settings: sheet,
+        board: kind,
         exercise,
         answer,
         route,

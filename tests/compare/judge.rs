@@ -1,4 +1,5 @@
-//! The judge in plain Rust: linear passes, tables by net, a list of cells per LAB.
+//! The judge in plain Rust: linear passes, tables by net, a list of cells per LAB,
+//! all ways of the settings sheet's table in order.
 
 #[derive(Clone, Copy, Debug, PartialEq, Eq)]
 pub struct Verdict {
@@ -53,80 +54,124 @@ struct Cell {
     s: [u16; 11],
 }
 
-// Entry by role: clk, ena, aclr, sclr, sload.
-const ENTRIES: [[bool; 5]; 6] = [
-    [true, false, false, false, false],
-    [true, false, true, false, false],
-    [true, true, false, false, false],
-    [false, true, false, false, true],
-    [false, false, true, true, false],
-    [false, false, false, true, true],
-];
+/// The entries that serve each role, a bit an entry: clk, ena, aclr, sclr, sload.
+type Table = [u8; 5];
+const MAX_ENTRIES: usize = 8;
 
-// The earliest way depends only on how many needs each role has, so all 108
-// cases are worked out at compile time. A first byte of NO_WAY marks none.
-const NO_WAY: u8 = 254;
-static WAYS: [[u8; 8]; 108] = all_ways();
+/// The table on a settings sheet, or the number of 70 to 75.
+fn table_of(settings: &[u8]) -> Result<Table, u8> {
+    if settings.len() < 6 {
+        return Err(70);
+    }
+    if &settings[..3] != b"LXT" {
+        return Err(71);
+    }
+    // A board number stands after the count in version 2.
+    let head = match word(settings, 3) {
+        1 => 6,
+        2 => 8,
+        _ => return Err(72),
+    };
+    let count = settings[5] as usize;
+    if count > MAX_ENTRIES {
+        return Err(73);
+    }
+    if settings.len() != head + count {
+        return Err(74);
+    }
+    let mut flags = [0; MAX_ENTRIES];
+    flags[..count].copy_from_slice(&settings[head..]);
+    let all = u64::from_le_bytes(flags);
+    let each = u64::from_le_bytes([1; MAX_ENTRIES]);
+    if all & (0xe0 * each) != 0 {
+        return Err(75);
+    }
+    // Takes the role's bit of each entry to the top byte, entry 0 lowest.
+    let gathered = |role: u32| (all >> role & each).wrapping_mul(0x0102_0408_1020_4080);
+    Ok([0, 1, 2, 3, 4].map(|role| (gathered(role) >> 56) as u8))
+}
 
-const fn way_index(clk: usize, ena: usize, aclr: usize, sclr: usize, sload: usize) -> usize {
+// The earliest way depends only on how many needs each role has: 108 cases.
+const CASES: usize = 108;
+
+fn way_case(clk: usize, ena: usize, aclr: usize, sclr: usize, sload: usize) -> usize {
     (((clk * 3 + ena) * 3 + aclr) * 2 + sclr) * 2 + sload
 }
 
-const fn all_ways() -> [[u8; 8]; 108] {
-    let mut table = [[255; 8]; 108];
-    let mut i = 0;
-    while i < 108 {
-        let counts = [i / 36, i / 12 % 3, i / 4 % 3, i / 2 % 2, i % 2];
-        // Needs in order: role and route byte.
-        let first = [0, 2, 4, 6, 7];
-        let mut roles = [0; 8];
-        let mut bytes = [0; 8];
-        let mut n = 0;
-        let mut role = 0;
-        while role < 5 {
-            let mut k = 0;
-            while k < counts[role] {
-                roles[n] = role;
-                bytes[n] = first[role] + k;
-                n += 1;
-                k += 1;
-            }
-            role += 1;
-        }
-        let mut entries = [255; 8];
-        if earliest_way(&roles, n, 0, 0, &mut entries) {
-            let mut k = 0;
-            while k < n {
-                table[i][bytes[k]] = entries[k];
-                k += 1;
-            }
-        } else {
-            table[i][0] = NO_WAY;
-        }
-        i += 1;
-    }
-    table
+/// The route bytes of each case, searched when a LAB first asks for it.
+struct Ways {
+    table: Table,
+    bytes: [[u8; 8]; CASES],
 }
 
-const fn earliest_way(
-    roles: &[usize; 8],
-    n: usize,
-    at: usize,
-    taken: u8,
-    out: &mut [u8; 8],
-) -> bool {
-    if at == n {
-        return true;
+// In the first byte.
+const NOT_ASKED: u8 = 253;
+const NO_WAY: u8 = 254;
+
+impl Ways {
+    fn new(table: Table) -> Ways {
+        Ways {
+            table,
+            bytes: [[NOT_ASKED; 8]; CASES],
+        }
     }
-    let mut e = 0;
-    while e < 6 {
-        if taken & (1 << e) == 0 && ENTRIES[e][roles[at]] {
-            out[at] = e as u8;
-            if earliest_way(roles, n, at + 1, taken | (1 << e), out) {
-                return true;
+
+    /// Whether the case has a way; then its bytes are there.
+    #[inline(always)]
+    fn exists(&mut self, case: usize) -> bool {
+        if self.bytes[case][0] == NOT_ASKED {
+            self.bytes[case] = self.search(case);
+        }
+        self.bytes[case][0] != NO_WAY
+    }
+
+    #[inline(never)]
+    fn search(&self, case: usize) -> [u8; 8] {
+        let counts = [
+            case / 36,
+            case / 12 % 3,
+            case / 4 % 3,
+            case / 2 % 2,
+            case % 2,
+        ];
+        let first = [0, 2, 4, 6, 7];
+        // Needs in order: the entries that serve it, and its route byte.
+        let mut serving = [0; 8];
+        let mut places = [0; 8];
+        let mut n = 0;
+        for role in 0..5 {
+            for k in 0..counts[role] {
+                serving[n] = self.table[role];
+                places[n] = first[role] + k;
+                n += 1;
             }
         }
-        e += 1;
+        let mut way = [0; 8];
+        let mut bytes = [255; 8];
+        if !earliest_way(&serving[..n], 0, &mut way[..n]) {
+            bytes[0] = NO_WAY;
+            return bytes;
+        }
+        for k in 0..n {
+            bytes[places[k]] = way[k];
+        }
+        bytes
+    }
+}
+
+/// Tries every free entry for the first need, the lowest first.
+fn earliest_way(serving: &[u8], taken: u8, way: &mut [u8]) -> bool {
+    let Some((&all, others)) = serving.split_first() else {
+        return true;
+    };
+    let mut left = all & !taken;
+    while left != 0 {
+        let entry = left.trailing_zeros() as u8;
+        if earliest_way(others, taken | 1 << entry, &mut way[1..]) {
+            way[0] = entry;
+            return true;
+        }
+        left &= left - 1;
     }
     false
 }
@@ -246,10 +291,14 @@ fn at_answer_end(number: u8, apprentice: u32, answer: &[u8]) -> Verdict {
     }
 }
 
-pub fn judge(exercise: &[u8], answer: &[u8], route: &mut [u8]) -> Verdict {
+pub fn judge(settings: &[u8], exercise: &[u8], answer: &[u8], route: &mut [u8]) -> Verdict {
     if route.len() != ROUTE {
         return at_answer_end(1, 0, answer);
     }
+    let table = match table_of(settings) {
+        Ok(table) => table,
+        Err(number) => return at_answer_end(number, 0, answer),
+    };
     if exercise.len() < 9 {
         return at_exercise_head(10, exercise);
     }
@@ -267,12 +316,13 @@ pub fn judge(exercise: &[u8], answer: &[u8], route: &mut [u8]) -> Verdict {
     if exercise.len() != 9 + 24 * count {
         return at_exercise_head(14, exercise);
     }
-    judge_cells(exercise, nets, count, answer, route)
+    judge_cells(table, exercise, nets, count, answer, route)
 }
 
 /// Everything from rule 15 on; the exercise's head is sound.
 #[inline(never)]
 fn judge_cells(
+    table: Table,
     exercise: &[u8],
     nets: usize,
     count: usize,
@@ -465,14 +515,18 @@ fn judge_cells(
     }
 
     let mut stamp = [0u16; SLOTS];
-    let mut ways = [0u8; LABS];
+    let mut ways = Ways::new(table);
+    let mut cases = [0u8; LABS];
     for group in 0..LABS / 64 {
         let mut bits = occupied[group];
         while bits != 0 {
             let lab = group * 64 + bits.trailing_zeros() as usize;
             bits &= bits - 1;
-            match lab_rules(lab, marks[lab], heads[lab], &next, cells, &mut stamp) {
-                Ok(way) => ways[lab] = way,
+            let found = lab_rules(
+                lab, marks[lab], heads[lab], &next, cells, &mut stamp, &mut ways,
+            );
+            match found {
+                Ok(case) => cases[lab] = case,
                 Err(number) => {
                     let lowest = heads[lab]
                         .into_iter()
@@ -496,7 +550,7 @@ fn judge_cells(
         while bits != 0 {
             let lab = group * 64 + bits.trailing_zeros() as usize;
             bits &= bits - 1;
-            route[8 * lab..8 * lab + 8].copy_from_slice(&WAYS[ways[lab] as usize]);
+            route[8 * lab..8 * lab + 8].copy_from_slice(&ways.bytes[cases[lab] as usize]);
         }
     }
     at_answer_end(0, apprentice, answer)
@@ -570,7 +624,7 @@ fn lowest(first: u8, broken: &[bool]) -> u8 {
     first + broken.iter().position(|&b| b).unwrap_or(0) as u8
 }
 
-/// The lowest of 60 to 65 that the LAB breaks, else the place of its way.
+/// The lowest of 60 to 65 that the LAB breaks, else the case of its way.
 #[inline(always)]
 fn lab_rules(
     lab: usize,
@@ -579,6 +633,7 @@ fn lab_rules(
     next: &[u16; MAX_CELLS],
     cells: &[Cell],
     stamp: &mut [u16; SLOTS],
+    ways: &mut Ways,
 ) -> Result<u8, u8> {
     let list = |head: u16| {
         let mut at = head;
@@ -664,16 +719,16 @@ fn lab_rules(
         }
     }
 
-    let way = way_index(
+    let case = way_case(
         clk.nets(),
         ena.nets(),
         aclr.nets(),
         (sclr >= FIRST_NET) as usize,
         (sload >= FIRST_NET) as usize,
     );
-    if WAYS[way][0] == NO_WAY {
-        Err(65)
+    if ways.exists(case) {
+        Ok(case as u8)
     } else {
-        Ok(way as u8)
+        Err(65)
     }
 }

@@ -1,8 +1,9 @@
-//! The readers and the list check in plain Rust, straight from document 01: sets
-//! and all ways, no tables.
+//! The readers and the list check in plain Rust, straight from document 01 and
+//! M-102: sets, and each list of entries by itself.
 #![allow(dead_code)]
 
 use std::collections::BTreeSet;
+use std::sync::OnceLock;
 
 /// Kind, flag and eleven signals, laid out as in the exercise.
 #[repr(C)]
@@ -56,6 +57,42 @@ pub fn open_answer(b: &[u8]) -> u8 {
         25
     } else {
         0
+    }
+}
+
+/// What stands on a settings sheet; an entry is its flags.
+#[derive(Clone, Debug, PartialEq, Eq)]
+pub struct Settings {
+    pub version: u16,
+    pub board: u16,
+    pub entries: Vec<u8>,
+}
+
+/// Or the number of 70 to 75.
+pub fn read_settings(b: &[u8]) -> Result<Settings, u8> {
+    let version = word(b, 3);
+    let count = b.get(5).copied().unwrap_or(0) as usize;
+    let (head, board) = if version == 2 {
+        (8, word(b, 6))
+    } else {
+        (6, 0)
+    };
+    let entries = b.get(head..).unwrap_or(&[]);
+    let refusals = [
+        (70, b.len() < 6),
+        (71, !b.starts_with(b"LXT")),
+        (72, ![1, 2].contains(&version)),
+        (73, count > 8),
+        (74, b.len() != head + count),
+        (75, entries.iter().any(|&flags| flags > 1 + 2 + 4 + 8 + 16)),
+    ];
+    match refusals.iter().find(|r| r.1) {
+        Some(&(number, _)) => Err(number),
+        None => Ok(Settings {
+            version,
+            board,
+            entries: entries.to_vec(),
+        }),
     }
 }
 
@@ -144,24 +181,28 @@ fn breaks_register_rule(c: &CellRecord) -> bool {
         || gnd_or_inverted(sdata)
 }
 
-/// The entries that serve clk, ena, aclr, sclr and sload.
-const SERVING: [&[u8]; 5] = [&[0, 1, 2], &[2, 3], &[1, 4], &[4, 5], &[3, 5]];
-
-/// Every way, the earliest first, up to the first one.
-fn earliest(roles: &[usize], way: &mut Vec<u8>) -> bool {
-    let Some(&role) = roles.get(way.len()) else {
-        return true;
-    };
-    for &entry in SERVING[role] {
-        if !way.contains(&entry) {
-            way.push(entry);
-            if earliest(roles, way) {
-                return true;
-            }
-            way.pop();
+/// All lists of so many different entries below `count`, in rising order.
+fn lists(count: usize, length: usize) -> &'static [Vec<u8>] {
+    static MADE: [[OnceLock<Vec<Vec<u8>>>; 9]; 9] = [const { [const { OnceLock::new() }; 9] }; 9];
+    MADE[count][length].get_or_init(|| {
+        let mut all = vec![vec![]];
+        for _ in 0..length {
+            let longer = |list: Vec<u8>| {
+                let others = (0..count as u8).filter(|e| !list.contains(e));
+                others.map(|e| [&list[..], &[e]].concat()).collect()
+            };
+            all = all.into_iter().flat_map::<Vec<_>, _>(longer).collect();
         }
-    }
-    false
+        all
+    })
+}
+
+/// The first list that gives each need an entry that serves its role.
+fn earliest(roles: &[usize], entries: &[u8]) -> Option<&'static [u8]> {
+    let serves = |(&entry, &role): (&u8, &usize)| entries[entry as usize] & (1 << role) != 0;
+    let is_way = |list: &&Vec<u8>| list.iter().zip(roles).all(serves);
+    let found = lists(entries.len(), roles.len()).iter().find(is_way);
+    found.map(|list| &list[..])
 }
 
 /// What the register fixes of (sload, sclr), where it uses one of them (M-101).
@@ -176,12 +217,16 @@ fn sync_pair(c: &CellRecord) -> Option<(u16, u16)> {
     }
 }
 
-pub fn check_list(list: &[CellRecord]) -> (u8, [u8; 8]) {
+pub fn check_list(settings: &[u8], list: &[CellRecord]) -> (u8, [u8; 8]) {
     let none = [255; 8];
     let unfit = |c: &CellRecord| !keeps_layout(c, 1024) || (c.kind == 2 && breaks_register_rule(c));
     if list.len() > 32 || list.iter().any(unfit) {
         return (18, none);
     }
+    let entries = match read_settings(settings) {
+        Ok(sheet) => sheet.entries,
+        Err(number) => return (number, none),
+    };
     let mut counted: [BTreeSet<u16>; 3] = Default::default();
     let [clks, aclrs, enas] = &mut counted;
     let (mut sclrs, mut sloads) = (BTreeSet::new(), BTreeSet::new());
@@ -252,12 +297,11 @@ pub fn check_list(list: &[CellRecord]) -> (u8, [u8; 8]) {
             bytes.push(first[role] + k);
         }
     }
-    let mut way = Vec::new();
-    if !earliest(&roles, &mut way) {
+    let Some(way) = earliest(&roles, &entries) else {
         return (65, none);
-    }
+    };
     let mut route = none;
-    for (&b, &entry) in bytes.iter().zip(&way) {
+    for (&b, &entry) in bytes.iter().zip(way) {
         route[b] = entry;
     }
     (0, route)

@@ -2,10 +2,13 @@
 #![allow(dead_code)]
 
 use crate::judge::Verdict;
-use crate::plain::{CellRecord, Step};
+use crate::plain::{CellRecord, Settings, Step};
 
 extern "C" {
+    fn nurimkkot_house_settings(settings: *mut u8);
     fn nurimkkot_judge(
+        settings: *const u8,
+        settings_len: usize,
         exercise: *const u8,
         exercise_len: usize,
         answer: *const u8,
@@ -34,7 +37,19 @@ extern "C" {
         at: *mut u16,
         cell: *mut CellRecord,
     ) -> u8;
-    fn nurimkkot_check_lab(cells: *const CellRecord, count: usize, route: *mut u8) -> u8;
+    fn nurimkkot_check_lab(
+        settings: *const u8,
+        settings_len: usize,
+        cells: *const CellRecord,
+        count: usize,
+        route: *mut u8,
+    ) -> u8;
+    fn nurimkkot_read_settings(
+        settings: *const u8,
+        settings_len: usize,
+        numbers: *mut u16,
+        entries: *mut u8,
+    ) -> u8;
     fn nurimkkot_write_exercise(
         nets: u16,
         cells: *const CellRecord,
@@ -51,14 +66,37 @@ extern "C" {
         room: usize,
         length: *mut usize,
     ) -> u8;
+    fn nurimkkot_write_settings(
+        version: u16,
+        board: u16,
+        entries: *const u8,
+        count: usize,
+        sheet: *mut u8,
+        room: usize,
+        length: *mut usize,
+    ) -> u8;
+}
+
+pub fn house_settings() -> Vec<u8> {
+    // A guard byte at both ends.
+    let mut b = [0xad; 14];
+    unsafe { nurimkkot_house_settings(b[1..].as_mut_ptr()) };
+    assert_eq!(
+        [b[0], b[13]],
+        [0xad; 2],
+        "a byte outside the house settings"
+    );
+    b[1..13].to_vec()
 }
 
 /// Number, cell, LAB, apprentice, sheet, start and size as the library gives them.
-pub fn judge(exercise: &[u8], answer: &[u8], route: &mut [u8]) -> [u64; 7] {
+pub fn judge(settings: &[u8], exercise: &[u8], answer: &[u8], route: &mut [u8]) -> [u64; 7] {
     // Filled beforehand, to see every number written.
     let mut numbers = [0xdead_beef_dead_beef; 7];
     unsafe {
         nurimkkot_judge(
+            settings.as_ptr(),
+            settings.len(),
             exercise.as_ptr(),
             exercise.len(),
             answer.as_ptr(),
@@ -150,10 +188,49 @@ pub fn next_place(answer: &[u8], at: u16) -> (Step<[u16; 3]>, u16) {
     (step(told, p, [0; 3]), next)
 }
 
-pub fn check_lab(cells: &[CellRecord]) -> (u8, [u8; 8]) {
+pub fn check_lab(settings: &[u8], cells: &[CellRecord]) -> (u8, [u8; 8]) {
     let mut route = [0xad; 8];
-    let number = unsafe { nurimkkot_check_lab(cells.as_ptr(), cells.len(), route.as_mut_ptr()) };
+    let number = unsafe {
+        nurimkkot_check_lab(
+            settings.as_ptr(),
+            settings.len(),
+            cells.as_ptr(),
+            cells.len(),
+            route.as_mut_ptr(),
+        )
+    };
     (number, route)
+}
+
+/// What stands on the sheet, or the number; zeros stand where nothing was read.
+pub fn read_settings(settings: &[u8]) -> Result<Settings, u8> {
+    let mut numbers = [0xdead; 3];
+    let mut entries = [0xad; 8];
+    let number = unsafe {
+        nurimkkot_read_settings(
+            settings.as_ptr(),
+            settings.len(),
+            numbers.as_mut_ptr(),
+            entries.as_mut_ptr(),
+        )
+    };
+    if number != 0 {
+        assert_eq!(
+            (numbers, entries),
+            ([0; 3], [0; 8]),
+            "numbers of a sheet that was refused"
+        );
+        return Err(number);
+    }
+    let [version, board, count] = numbers;
+    assert!(count <= 8, "{count} entries were read");
+    let (own, past) = entries.split_at(count as usize);
+    assert!(past.iter().all(|&f| f == 0), "an entry past the last one");
+    Ok(Settings {
+        version,
+        board,
+        entries: own.to_vec(),
+    })
 }
 
 /// Number and length, as the library gives them.
@@ -179,6 +256,22 @@ pub fn write_answer(apprentice: u32, places: &[[u16; 3]], sheet: &mut [u8]) -> (
             apprentice,
             places.as_flattened().as_ptr(),
             places.len(),
+            sheet.as_mut_ptr(),
+            sheet.len(),
+            &mut length,
+        )
+    };
+    (number, length)
+}
+
+pub fn write_settings(version: u16, board: u16, entries: &[u8], sheet: &mut [u8]) -> (u8, usize) {
+    let mut length = 0xdead_beef;
+    let number = unsafe {
+        nurimkkot_write_settings(
+            version,
+            board,
+            entries.as_ptr(),
+            entries.len(),
             sheet.as_mut_ptr(),
             sheet.len(),
             &mut length,

@@ -1,10 +1,12 @@
-//! The writers of both sheets in plain Rust, from document 01's sheets and the
-//! refusals of M-100. Their tests of 15 and 16 are their own, neither judge's.
+//! The writers of the three sheets in plain Rust, from document 01's sheets and the
+//! refusals of M-100 and M-102. Their tests are their own, neither judge's.
+#![allow(dead_code)]
 
 use crate::plain::CellRecord;
 
 const MAX_NETS: u16 = 1024;
 const MAX_RECORDS: usize = 512;
+const MAX_ENTRIES: usize = 8;
 
 /// Number and length; a refusal has length 0 and writes nothing.
 pub fn exercise(nets: u16, cells: &[CellRecord], sheet: &mut [u8]) -> (u8, usize) {
@@ -55,6 +57,33 @@ pub fn answer(apprentice: u32, places: &[[u16; 3]], sheet: &mut [u8]) -> (u8, us
     for (p, r) in places.iter().zip(sheet[11..length].chunks_exact_mut(4)) {
         r.copy_from_slice(&[p[0] as u8, p[1] as u8, p[2] as u8, 0]);
     }
+    (0, length)
+}
+
+/// The same for a settings sheet; an entry is its flags. Here 2 comes last.
+pub fn settings(version: u16, board: u16, entries: &[u8], sheet: &mut [u8]) -> (u8, usize) {
+    let head = match (version, board) {
+        (1, 0) => 6,
+        (2, _) => 8,
+        _ => return (72, 0),
+    };
+    if entries.len() > MAX_ENTRIES {
+        return (73, 0);
+    }
+    if entries.iter().fold(0, |all, flags| all | flags) >= 32 {
+        return (75, 0);
+    }
+    let length = head + entries.len();
+    if sheet.len() < length {
+        return (2, 0);
+    }
+    sheet[..3].copy_from_slice(b"LXT");
+    put(&mut sheet[3..5], version);
+    sheet[5] = entries.len() as u8;
+    if version == 2 {
+        put(&mut sheet[6..8], board);
+    }
+    sheet[head..length].copy_from_slice(entries);
     (0, length)
 }
 

@@ -1,30 +1,35 @@
 //! The proved writers beside the ones in Rust, on the generated sheets and on
-//! records and places of their own; what was written is read, judged and written
-//! again.
+//! records, places and boards of their own; what was written is read, judged and
+//! written again.
 
 use crate::faults::*;
 use crate::forms::{self, same};
 use crate::generate::*;
 use crate::judge;
-use crate::plain::{self, Step};
+use crate::plain::{self, Settings, Step};
 use crate::proved;
+use crate::settings::HOUSE;
 use crate::writer;
 use crate::{describe, hex, Both, GUARD};
 use std::fmt::Write;
 
-/// How often each thing was compared; pairs are exercises and answers.
+/// How often each thing was compared; three are exercises, answers and settings.
 pub struct Counts {
     /// Calls of the exercise writer by number, 13 for the records.
     pub exercises: [u64; 256],
     /// 13 for the nets.
     pub nets: u64,
     pub answers: [u64; 256],
+    /// Calls of the settings writer by number, 72 for the version.
+    pub settings: [u64; 256],
+    /// 72 for the board of a version 1 sheet.
+    pub boards: u64,
     /// Faults planted alone.
     pub faults: [u64; FAULTS.len()],
     /// Written, read, judged and written again.
-    pub circles: [u64; 2],
+    pub circles: [u64; 3],
     /// Generated sheets that pass, written again to the same bytes.
-    pub kept: [u64; 2],
+    pub kept: [u64; 3],
 }
 
 /// Number and length.
@@ -38,6 +43,10 @@ trait Input: PartialEq + Sized {
     fn by_rust(&self, sheet: &mut [u8]) -> Told;
     /// By the proved readers; the nets and the apprentice stand in the head.
     fn read(sheet: &[u8]) -> Result<Self, String>;
+    /// The number in too little room, beside the one in enough.
+    fn short(_number: u8) -> u8 {
+        2
+    }
     fn note(&self, counts: &mut Counts, number: u8);
     fn describe(&self) -> String;
 }
@@ -109,6 +118,46 @@ impl Input for Placing {
             self.places.len()
         );
         lines(title, &self.places)
+    }
+}
+
+impl Input for Settings {
+    fn need(&self) -> usize {
+        let head = if self.version == 2 { 8 } else { 6 };
+        head + self.entries.len()
+    }
+
+    fn by_proved(&self, sheet: &mut [u8]) -> Told {
+        proved::write_settings(self.version, self.board, &self.entries, sheet)
+    }
+
+    fn by_rust(&self, sheet: &mut [u8]) -> Told {
+        writer::settings(self.version, self.board, &self.entries, sheet)
+    }
+
+    fn read(sheet: &[u8]) -> Result<Settings, String> {
+        proved::read_settings(sheet).map_err(|n| format!("reading settings: got {n}, wanted 0\n"))
+    }
+
+    /// 2 comes last.
+    fn short(number: u8) -> u8 {
+        if number == 0 {
+            2
+        } else {
+            number
+        }
+    }
+
+    fn note(&self, counts: &mut Counts, number: u8) {
+        if number == 72 && self.version == 1 {
+            counts.boards += 1;
+        } else {
+            counts.settings[number as usize] += 1;
+        }
+    }
+
+    fn describe(&self) -> String {
+        format!("{self:?}\n")
     }
 }
 
@@ -189,6 +238,29 @@ fn limit_placing(rng: &mut Rng, count: usize, [apprentice, place, _]: [bool; 3])
     (placing, first(&order))
 }
 
+/// Good entries, but for one.
+fn limit_settings(
+    version: u16,
+    board: u16,
+    count: usize,
+    bad: Option<(usize, u8)>,
+) -> (Settings, u8) {
+    let mut entries: Vec<u8> = (0..count).map(|e| 31 - e as u8 % 32).collect();
+    let found = bad.and_then(|(at, flags)| Some(std::mem::replace(entries.get_mut(at)?, flags)));
+    let order = [
+        (version != 1 && version != 2, 72),
+        (version == 1 && board != 0, 72),
+        (count > 8, 73),
+        (found.is_some(), 75),
+    ];
+    let input = Settings {
+        version,
+        board,
+        entries,
+    };
+    (input, first(&order))
+}
+
 /// The first number that applies, or 0.
 fn first(order: &[(bool, u8)]) -> u8 {
     order.iter().find(|o| o.0).map_or(0, |o| o.1)
@@ -211,9 +283,11 @@ impl Writes {
                 exercises: [0; 256],
                 nets: 0,
                 answers: [0; 256],
+                settings: [0; 256],
+                boards: 0,
                 faults: [0; FAULTS.len()],
-                circles: [0; 2],
-                kept: [0; 2],
+                circles: [0; 3],
+                kept: [0; 3],
             },
             before: Vec::new(),
             left: Vec::new(),
@@ -283,14 +357,14 @@ impl Writes {
         input: &T,
     ) -> Result<(u8, Vec<u8>), String> {
         let [little, less, enough] = rooms(rng, input.need());
-        for room in [little, less] {
-            let (number, _) = self.call(fill, input, room)?;
-            same("the number in too little room", number, 2)?;
-            input.note(&mut self.counts, number);
-        }
         let (number, sheet) = self.call(fill, input, enough)?;
         let sheet = sheet.to_vec();
         input.note(&mut self.counts, number);
+        for room in [little, less] {
+            let (short, _) = self.call(fill, input, room)?;
+            same("the number in too little room", short, T::short(number))?;
+            input.note(&mut self.counts, short);
+        }
         Ok((number, sheet))
     }
 
@@ -309,8 +383,8 @@ impl Writes {
         Ok(())
     }
 
-    /// The writers on what stands in a generated pair of sheets, beside the number
-    /// that the Rust judge gives.
+    /// The writers on what stands in a generated pair of sheets and on its settings
+    /// sheet, beside the number that the Rust judge gives the two.
     pub fn sheets(
         &mut self,
         rng: &mut Rng,
@@ -318,21 +392,39 @@ impl Writes {
         case: &Case,
         number: u8,
     ) -> Result<(), String> {
-        let (exercise, answer) = (&case.exercise, &case.answer);
-        let number = match number {
-            1 => judge::judge(exercise, answer, &mut self.route).number,
-            n => n,
-        };
-        self.exercise(rng, fill, exercise, number)?;
+        self.settings(rng, fill, &case.settings)?;
+        self.exercise(rng, fill, &case.exercise, number)?;
         // An answer that was not judged for its exercise's sake has another one.
+        let answer = &case.answer;
         let number = match number {
             10..=16 | 24 => {
                 let other = beside(plain::word(answer, 9).min(512) as usize).exercise();
-                judge::judge(&other, answer, &mut self.route).number
+                judge::judge(&HOUSE, &other, answer, &mut self.route).number
             }
             n => n,
         };
         self.answer(rng, fill, answer, number)
+    }
+
+    fn settings(&mut self, rng: &mut Rng, fill: &[u8], sheet: &[u8]) -> Result<(), String> {
+        let version = plain::word(sheet, 3);
+        let (head, board) = match version {
+            2 => (8, plain::word(sheet, 6)),
+            _ => (6, 0),
+        };
+        let input = Settings {
+            version,
+            board,
+            entries: sheet.get(head..).unwrap_or(&[]).to_vec(),
+        };
+        let (told, _) = self.write(rng, fill, &input)?;
+        match plain::read_settings(sheet) {
+            Ok(_) => self.keeps(fill, &input, sheet)?,
+            Err(n @ (72 | 75)) => return same("the settings writer beside the reader", told, n),
+            Err(_) => return Ok(()),
+        }
+        self.counts.kept[2] += 1;
+        Ok(())
     }
 
     fn exercise(
@@ -385,8 +477,8 @@ impl Writes {
         Ok(())
     }
 
-    /// The writers on records and places of their own. What they write is read,
-    /// judged and written again.
+    /// The writers on records, places and boards of their own. What they write is
+    /// read, judged and written again.
     pub fn made(&mut self, rng: &mut Rng, fill: &[u8]) -> Result<(), String> {
         let count = some_count(rng);
         let (list, known) = Netlist::some(rng, count);
@@ -395,12 +487,9 @@ impl Writes {
         let (placing, known) = Placing::some(rng, count);
         let (other, answer) = self.write(rng, fill, &placing)?;
         self.expect(count, known, other)?;
-        let (exercise, answer) = match (number, other) {
-            (0, 0) => (exercise, answer),
-            (0, _) => (exercise, beside(count).answer()),
-            (_, 0) => (beside(count).exercise(), answer),
-            _ => return Ok(()),
-        };
+        let (board, known) = Settings::some(rng);
+        let (third, settings) = self.write(rng, fill, &board)?;
+        self.expect(0, known, third)?;
         if number == 0 {
             self.keeps(fill, &list, &exercise)?;
             self.counts.circles[0] += 1;
@@ -409,9 +498,28 @@ impl Writes {
             self.keeps(fill, &placing, &answer)?;
             self.counts.circles[1] += 1;
         }
-        let n = self.judges.run(&exercise, &answer, fill, judge::ROUTE)?;
-        if n[0] != 0 && n[0] < 30 {
-            let sheets = hex("exercise", &exercise) + &hex("answer", &answer);
+        if third == 0 {
+            self.keeps(fill, &board, &settings)?;
+            self.counts.circles[2] += 1;
+        }
+        if [number, other, third].iter().all(|&n| n != 0) {
+            return Ok(());
+        }
+        // A good sheet stands in for one that was not written.
+        let or = |number: u8, sheet: Vec<u8>, good: Vec<u8>| match number {
+            0 => sheet,
+            _ => good,
+        };
+        let good = beside(if count > 512 { 0 } else { count });
+        let settings = or(third, settings, HOUSE.to_vec());
+        let exercise = or(number, exercise, good.exercise());
+        let answer = or(other, answer, good.answer());
+        let n = self
+            .judges
+            .run(&settings, &exercise, &answer, fill, judge::ROUTE)?;
+        if n[0] >= 70 || (n[0] != 0 && n[0] < 30) {
+            let sheets =
+                hex("settings", &settings) + &hex("exercise", &exercise) + &hex("answer", &answer);
             let said = describe(&n);
             return Err(format!("of a sheet just written: {said}\n{sheets}"));
         }
@@ -433,7 +541,7 @@ impl Writes {
     }
 
     /// Counts and rooms at their limits with every company of faults; the number is
-    /// by the order of M-100. Gives how many calls there were.
+    /// by the order of M-100 and M-102. Gives how many calls there were.
     pub fn settled(&mut self, rng: &mut Rng) -> Result<usize, String> {
         // The last four are 65,535, 0, 1 and 512 in 16 bits.
         let counts = [0, 1, 511, 512, 513, 600, 65_535, 65_536, 65_537, 66_048];
@@ -453,6 +561,23 @@ impl Writes {
                 }
             }
         }
+        for version in [0, 1, 2, 3, 255, 256, 257, 258, 513, 65_535] {
+            for board in [0, 1, 256, 65_535] {
+                // In one byte the last four are 255, 0, 8 and 0.
+                for count in [0, 1, 7, 8, 9, 10, 255, 256, 264, 65_536] {
+                    let last = usize::wrapping_sub(count, 1);
+                    for bad in [
+                        None,
+                        Some((0, 255)),
+                        Some((count / 2, 64)),
+                        Some((last, 32)),
+                    ] {
+                        let (input, number) = limit_settings(version, board, count, bad);
+                        calls += self.at_limits(&fill, &input, number)?;
+                    }
+                }
+            }
+        }
         Ok(calls)
     }
 
@@ -460,7 +585,11 @@ impl Writes {
         let need = input.need();
         let rooms = [0, need - 1, need, need + 1, need + 24];
         for room in rooms {
-            let wanted = if room < need { 2 } else { number };
+            let wanted = if room < need {
+                T::short(number)
+            } else {
+                number
+            };
             let (got, _) = self.call(fill, input, room)?;
             same("the number at the limits", got, wanted)
                 .map_err(|w| format!("{w}buffer of {room} bytes, {}", input.describe()))?;

@@ -20,8 +20,8 @@ def page(name):
         return file.read()
 
 
-def stored(*path):
-    with open(os.path.join(TOP, "samples", *path), "rb") as file:
+def stored(path):
+    with open(os.path.join(TOP, path), "rb") as file:
         return file.read()
 
 
@@ -37,9 +37,9 @@ def part(text, begin, end):
 
 def taken_apart(text, file, fields):
     """Each byte of a sheet stands on the page once, in order, with its meaning."""
-    section = part(text, "### `samples/listing/%s`" % file, "\n##")
-    data, at, names = stored("listing", file), 0, []
-    assert "%d bytes" % len(data) in section.splitlines()[0], section.splitlines()[0]
+    section = part(text, "### `%s`" % file, "\n##")
+    data, at, names = stored(file), 0, []
+    assert section.splitlines()[0].endswith("`, %d bytes" % len(data)), section.splitlines()[0]
     for offset, shown, meaning in rows(section):
         assert int(offset) == at, (file, offset, at)
         field = bytes.fromhex(shown.strip("`"))
@@ -67,14 +67,41 @@ def answer_field(name, field):
     return field.decode() if name == "mark" else str(int.from_bytes(field, "little"))
 
 
+def settings_field(name, field):
+    roles = [role for role, flag in (("clk", 1), ("ena", 2), ("aclr", 4), ("sclr", 8), ("sload", 16)) if field[0] & flag]
+    return ", ".join(roles) or "nothing" if name.startswith("entry ") else answer_field(name, field)
+
+
+def boards_on_page(text):
+    """The settings sheet: its two boards, its head and its flags, and what the judge makes of the listing on the second board."""
+    entries = lambda count: [("entry %d" % i, 1) for i in range(count)]
+    head = [("mark", 3), ("version", 2), ("entries", 1)]
+    assert taken_apart(text, "boards/house.lxt", settings_field) == head + entries(6)
+    assert taken_apart(text, "boards/second.lxt", settings_field) == head + [("board", 2)] + entries(8)
+    section = part(text, "## The settings sheet", "\n## ")
+    assert [row[:2] + row[3:] for row in rows(part(section, "## The settings sheet", "\n\nThe sheet has"))] == [
+        ["0", "3", "71"], ["3", "2", "72"], ["5", "1", "73"], ["6", "2", ""], ["6 + i, in version 2 8 + i", "1", "75"]]
+    assert rows(part(section, "The flags of an entry", "\n\nAn entry")) == [
+        [str(flag), role] for flag, role in zip((sheets.CLK, sheets.ENA, sheets.ACLR, sheets.SCLR, sheets.SLOAD), sheets.ROLES)]
+    with tempfile.TemporaryDirectory() as folder:
+        sheets.save(folder, sheets.LISTING_EX, sheets.LISTING_AN)
+        shown = indented(judged(folder, sheets.SECOND)[0])
+    assert "\n`./nurimkkot judge --settings boards/second.lxt samples/listing` prints\n\n" + shown in text, shown
+
+
+def indented(text):
+    return "".join("    %s\n" % line for line in text.splitlines())
+
+
 def sheets_page():
     text = page("SHEETS.md")
+    boards_on_page(text)
     ports = lambda i, names: [("cell %d, %s" % (i, name), 2) for name in names]
     head = lambda i: [("cell %d, kind" % i, 1), ("cell %d, flag" % i, 1)]
-    assert taken_apart(text, "exercise.lxe", exercise_field) == (
+    assert taken_apart(text, "samples/listing/exercise.lxe", exercise_field) == (
         [("mark", 3), ("version", 2), ("nets", 2), ("cells", 2)]
         + head(0) + ports(0, sheets.REG_PORTS) + head(1) + ports(1, sheets.COMB_PORTS))
-    assert taken_apart(text, "answer.lxa", answer_field) == (
+    assert taken_apart(text, "samples/listing/answer.lxa", answer_field) == (
         [("mark", 3), ("version", 2), ("apprentice", 4), ("cells", 2)]
         + [("cell %d, %s" % (i, name), 1) for i in range(2) for name in ("x", "y", "LE", "zero")])
 
@@ -91,19 +118,38 @@ def sheets_page():
     assert [[row[:2] for row in table] for table in heads] == [
         [["0", "3"], ["3", "2"], ["5", "2"], ["7", "2"], ["9 + 24i", "24"]],
         [["0", "3"], ["3", "2"], ["5", "4"], ["9", "2"], ["11 + 4i", "4"]]]
-    listing = stored("listing", "listing.txt").decode()
-    assert "".join("    %s\n" % line for line in listing.splitlines()) in text
+    assert indented(stored("samples/listing/listing.txt").decode()) in text
 
 
-def judged(folder):
-    """The listing of the sheets in a folder, and what the C example says."""
-    listing = subprocess.run([PROGRAM], cwd=folder, capture_output=True, text=True, check=True).stdout
-    told = subprocess.run([EXAMPLE, "exercise.lxe", "answer.lxa"], cwd=folder, capture_output=True, text=True, check=True).stdout
+def judged(folder, settings=None):
+    """The listing of the sheets in a folder, and what the C example says; on the board of a settings sheet where there is one."""
+    option = [] if settings is None else ["--settings", "board"]
+    if option:
+        sheets.write(folder, "board", settings)
+    listing = subprocess.run([PROGRAM] + option[:1], cwd=folder, capture_output=True, check=True, input=settings or b"").stdout.decode()
+    told = subprocess.run([EXAMPLE] + option + ["exercise.lxe", "answer.lxa"], cwd=folder, capture_output=True, text=True, check=True).stdout
     return listing, told
 
 
+def boards_judged():
+    """The limits of the settings sheet in the same way, beside a cell that needs no entry."""
+    raw, house, second = sheets.raw_settings, sheets.HOUSE, sheets.SECOND
+    cases = [
+        (0, house), (0, second), (70, b""), (70, house[:5]), (70, second[:5]), (71, sheets.patch(house, 2, 0)), (72, raw(0, None)),
+        (0, raw(1, None)), (0, raw(2, 0)), (0, raw(2, 65535)), (72, raw(3, 0)), (0, raw(1, None, *[31] * 8)), (73, raw(1, None, *[31] * 9)),
+        (0, raw(2, 2, *[31] * 8)), (73, raw(2, 2, *[31] * 9)), (74, house[:-1]), (74, house + b"\0"), (74, second[:-1]), (74, second + b"\0"),
+        (74, raw(2, None)), (74, second[:7]), (73, sheets.patch(raw(2, None), 5, 9)), (73, sheets.patch(second[:7], 5, 9)),
+        (0, raw(1, None, 0)), (0, raw(1, None, 31)), (75, raw(1, None, 32)), (75, raw(2, 0, *[31] * 7, 32)),
+    ]
+    with tempfile.TemporaryDirectory() as folder:
+        sheets.save(folder, sheets.raw_exercise(4, sheets.comb()), sheets.answer(7, (2, 1, 0)))
+        for number, settings in cases:
+            listing, told = judged(folder, settings)
+            assert listing.split()[1] == str(number) and told.split()[1] == str(number), (number, settings, listing)
+
+
 def limits_judged():
-    """The limits of both tables, by the judge: the last value that is taken, the first that isn't."""
+    """The limits of the other two sheets, by the judge: the last value that is taken, the first that isn't."""
     cell = sheets.comb()
     head = sheets.raw_exercise(4, cell)
     good = sheets.answer(7, (2, 1, 0))
@@ -185,8 +231,9 @@ def links():
 def main():
     sheets_page()
     limits_judged()
+    boards_judged()
     ran = commands("VERDICTS.md") + commands("SAMPLES.md")
-    assert ran >= 9, ran
+    assert ran >= 10, ran
     assert page("SAMPLES.md").endswith("The number in brackets is the verdict.\n\n" + sheets.list_samples())
     counter()
     links()

@@ -2,6 +2,7 @@
 
 import os
 import random
+import re
 import resource
 import subprocess
 import sys
@@ -11,8 +12,8 @@ TOP = sys.argv[1]
 TOOL = os.path.join(TOP, "tools", "sheets.py")
 sys.path.insert(0, os.path.join(TOP, "tools"))
 import sheets  # noqa: E402
-from sheets import (GND, OPEN, VCC, Signal, answer, comb, exercise, inv, net, patch,  # noqa: E402
-                    raw_answer, raw_exercise, raw_record, record, reg, save, words)
+from sheets import (ACLR, CLK, ENA, GND, OPEN, SCLR, SLOAD, VCC, Signal, answer, comb, exercise, inv, net, patch,  # noqa: E402
+                    raw_answer, raw_exercise, raw_record, raw_settings, record, reg, save, settings, words)
 
 CELL = comb(a=net(0), o=net(1))
 
@@ -78,6 +79,14 @@ def numbers_refused():
     refused("place 0 is (x, y, LE), not 5", lambda: answer(1, 5, 3, 0))
     refused("place 0 is (x, y, LE)", lambda: answer(1, [(1, 2, 3), (1, 2, 4)]))
 
+    refused("an entry count is 0 to 8, not 9", lambda: settings(*[CLK] * 9))
+    refused("entry 1 is 0 to 31, not 32", lambda: settings(CLK, 32))
+    refused("entry 0 is 0 to 31, not -1", lambda: settings(-1, board=2))
+    refused("entry 0 is a whole number, not 'clk'", lambda: settings("clk"))
+    refused("entry 0 is a number, not the signal GND", lambda: settings(GND))
+    refused("a board is 0 to 65535, not 65536", lambda: settings(CLK, board=65536))
+    refused("a board is 0 to 65535, not -1", lambda: settings(CLK, board=-1))
+
     # The raw forms ask only that a number fits.
     refused("a code is 0 to 65535, not 65536", lambda: raw_record(1, 0, [65536]))
     refused("a code is 0 to 65535, not 65536", lambda: comb(a=Signal(65536)))
@@ -86,6 +95,9 @@ def numbers_refused():
     refused("a net count is 0 to 65535, not 65536", lambda: raw_exercise(65536))
     refused("an apprentice is 0 to 4294967295, not -1", lambda: raw_answer(-1))
     refused("x of place 0 is 0 to 255, not 256", lambda: raw_answer(1, (256, 0, 0)))
+    refused("a version is 0 to 65535, not 65536", lambda: raw_settings(65536, None))
+    refused("an entry count is 0 to 255, not 256", lambda: raw_settings(1, None, *[CLK] * 256))
+    refused("entry 0 is 0 to 255, not 256", lambda: raw_settings(1, None, 256))
     refused("the first byte of a patch is 0 to 8, not 9", lambda: patch(bytes(9), 9, 1))
     refused("the first byte of a patch is 0 to 8, not -1", lambda: patch(bytes(9), -1, 1))
     refused("range", lambda: patch(bytes(9), 0, 256))
@@ -101,18 +113,50 @@ def numbers_taken():
     assert record(2, 0, [net(0)]) == reg(d=net(0)) and record(1, 1, []) == comb(flag=1)
     assert raw_record(255, 255, [3, net(2), 65535])[:8] == b"\xff\xff\3\0\x08\0\xff\xff"
     assert raw_exercise(65535)[5:7] == b"\xff\xff" and raw_answer(0, (255, 255, 255))[5:15] == b"\0\0\0\0\1\0\xff\xff\xff\0"
+    assert (CLK, ENA, ACLR, SCLR, SLOAD) == (1, 2, 4, 8, 16)
+    assert settings() == b"LXT\1\0\0" and settings(board=0) == b"LXT\2\0\0\0\0"
+    assert settings(CLK + SLOAD, 0, 31, board=258) == b"LXT\2\0\3\2\1\x11\0\x1f" and len(settings(*[31] * 8, board=65535)) == 16
+    assert raw_settings(3, 7, 255) == b"LXT\3\0\1\7\0\xff" and raw_settings(2, None, 1) == b"LXT\2\0\1\1"
+    assert sheets.HOUSE == bytes.fromhex("4C5854010006010503120C18") and sheets.SECOND[:8] == b"LXT\2\0\x08\2\0"
     assert patch(bytes(3), 1, 7, 8) == b"\0\7\x08" and patch(bytes(3), 3) == bytes(3)
 
 
 def any_bytes():
-    """Any two runs of bytes can be told in words."""
+    """Any runs of bytes can be told in words."""
     rng = random.Random(5)
-    heads = [b"", b"LXE\1\0\4\0\2\0", b"LXA\1\0\7\0\0\0\2\0", b"LXE\1\0\xff\xff\xff\xff"]
+    heads = [b"", b"LXE\1\0\4\0\2\0", b"LXA\1\0\7\0\0\0\2\0", b"LXE\1\0\xff\xff\xff\xff", b"LXT\1\0\6", b"LXT\2\0\2\7\0"]
     for _ in range(2000):
-        ex, an = (rng.choice(heads) + bytes(rng.choice([0, 1, 2, 3, 4, 6, 255, rng.randrange(256)])
-                                            for _ in range(rng.randrange(80))) for _ in range(2))
+        ex, an, st = (rng.choice(heads) + bytes(rng.choice([0, 1, 2, 3, 4, 6, 255, rng.randrange(256)])
+                                                for _ in range(rng.randrange(80))) for _ in range(3))
         ex, an = (None if rng.random() < 0.05 else sheet for sheet in (ex, an))
+        st = st[:rng.choice([0, 3, 5, 6, 7, 8, 12, len(st)])]
         assert words(ex, an, labs=True).startswith(words(ex, an)), (ex, an)
+        assert words(ex, an, settings=st).endswith("\n" + words(ex, an)), (ex, an, st)
+
+
+def settings_in_words():
+    """What is wrong with a settings sheet, and where; nothing is wrong with a good one."""
+    told = lambda sheet: words(None, None, settings=sheet).split("\nexercise: ")[0]
+    wrong = re.compile("bad:|cut short|missing|left over")
+    for sheet in (settings(), settings(board=65535), sheets.HOUSE, sheets.SECOND, settings(*[31] * 8)):
+        assert not wrong.search(told(sheet)), told(sheet)
+    assert told(sheets.SECOND).endswith("\n  version 2\n  entries 8\n  board 2\n  entry 0: clk, sclr\n  entry 1: clk, sload\n"
+                                        "  entry 2: clk, ena\n  entry 3: ena, aclr\n  entry 4: ena\n  entry 5: aclr\n"
+                                        "  entry 6: aclr\n  entry 7: nothing"), told(sheets.SECOND)
+    for part, sheet in (("header cut short, 0 of 6 bytes: 6 missing", b""),
+                        ("header cut short, 5 of 6 bytes: 1 missing", sheets.HOUSE[:5]),
+                        ("header cut short, 7 of 8 bytes: 1 missing", sheets.SECOND[:7]),
+                        ("mark LXE, 4c 58 45 (bad: must be LXT)", b"LXE" + sheets.HOUSE[3:]),
+                        ("version 3 (bad: must be 1 or 2)", raw_settings(3, None)),
+                        ("entries 9 (bad: at most 8)", raw_settings(1, None, *[1] * 9)),
+                        ("board cut short: 02", sheets.SECOND[:7]),
+                        ("board 0, for which version 1 stands", settings()),
+                        ("byte missing for entry 5", sheets.HOUSE[:-1]),
+                        ("bytes missing for entries 4 to 5", sheets.HOUSE[:-2]),
+                        ("1 byte left over at the end: 00", sheets.SECOND + b"\0"),
+                        ("entry 0: nothing (bad: byte 32, over 31)", raw_settings(1, None, 32)),
+                        ("entry 1: clk, ena (bad: byte 67, over 31)", raw_settings(2, 9, 1, 67))):
+        assert "\n  " + part in told(sheet), (part, told(sheet))
 
 
 def limited():
@@ -144,6 +188,8 @@ def files(folder):
         one_line(why, "words", at(wrong), an)
         one_line(at(wrong), "words", ex, at(wrong))
         one_line(why, "words", "--labs", ex, at(wrong))
+        one_line(at(wrong), "words", "--settings", at(wrong), ex, an)
+        one_line(why, "words", "--settings", at(wrong))
     one_line("/dev/zero: is no regular file", "words", "/dev/zero", an)
     if os.path.exists("/dev/full"):
         with open("/dev/full", "w") as full:
@@ -163,8 +209,18 @@ def files(folder):
     done = command("words", "--labs", ex, at("many"))
     assert done.returncode == 0 and "\ncell 65534: no record on the exercise sheet; place x 0 y 0 LE 0, LAB 0\n" in done.stdout
 
+    with open(at("board"), "wb") as file:
+        file.write(sheets.HOUSE)
+        file.truncate(2 ** 40)
+    done = command("words", "--settings", at("board"))
+    assert done.returncode == 0 and done.stdout.startswith("settings: 1099511627776 bytes\n"), done
+    assert done.stdout.endswith("\n  1099511627764 bytes left over at the end: 00 00 00 00 00 00 00 00 00 00 00 00 00 00 00 00 ...\n"), done
+
     # A call that is none gets the help.
-    for args in ([], ["word"], ["words"], ["words", ex], ["words", ex, an, an], ["words", "--labs", ex], ["make", "x"], ["list", "x"]):
+    board = os.path.join(TOP, "boards", "house.lxt")
+    for args in ([], ["word"], ["words"], ["words", ex], ["words", ex, an, an], ["words", "--labs", ex], ["make", "x"], ["list", "x"],
+                 ["words", "--settings"], ["words", "--settings", board, ex], ["words", "--labs", "--settings", board],
+                 ["words", ex, an, "--settings", board]):
         done = command(*args)
         assert done.returncode == 2 and not done.stdout and "sheets.py words" in done.stderr, args
 
@@ -172,26 +228,39 @@ def files(folder):
     done = command("words", at("own/deep/exercise.lxe"), at("own/deep/answer.lxa"))
     with open(at("own/deep/words.txt")) as file:
         assert done.stdout == file.read() and done.returncode == 0
+    save(at("own/deep"), exercise(2, CELL), answer(1, (0, 0, 0)), settings(CLK, board=7))
+    done = command("words", "--labs", "--settings", at("own/deep/settings.lxt"), at("own/deep/exercise.lxe"), at("own/deep/answer.lxa"))
+    again = command("words", "--settings", at("own/deep/settings.lxt"), "--labs", at("own/deep/exercise.lxe"), at("own/deep/answer.lxa"))
+    with open(at("own/deep/words.txt")) as file:
+        text = file.read()
+    assert text.startswith("settings: 9 bytes\n") and done.stdout.startswith(text) and done.stdout == again.stdout, done
+    save(at("own/deep"), exercise(2, CELL), answer(1, (0, 0, 0)))
+    with open(at("own/deep/settings.lxt"), "rb") as file:
+        assert file.read() == b"LXT\2\0\1\7\0\1"
 
 
 def stored_words():
     """The command prints what is stored beside each sample."""
     root = os.path.join(TOP, "samples")
-    told = 0
-    for name, _, ex, an, _ in sheets.all_samples():
+    told, boards = 0, 0
+    for name, _, ex, an, _, st in sheets.all_samples():
         if ex is None or an is None:
             continue
         paths = [os.path.join(root, name, file) for file in ("exercise.lxe", "answer.lxa")]
+        if st is not None:
+            paths = ["--settings", os.path.join(root, name, "settings.lxt")] + paths
+            boards += 1
         with open(os.path.join(root, name, "words.txt")) as file:
             assert sheets.run(["words"] + paths) == file.read(), name
         told += 1
-    assert told > 90, told
+    assert told > 90 and boards > 20, (told, boards)
 
 
 def main():
     numbers_refused()
     numbers_taken()
     any_bytes()
+    settings_in_words()
     stored_words()
     with tempfile.TemporaryDirectory() as folder:
         files(folder)

@@ -1,8 +1,10 @@
-"""Holds what `sheets.py words --labs` prints against the judge: against_judge.py TOP PAIRS SEED.
+"""Holds what `sheets.py words --labs --settings` prints against the judge: against_judge.py TOP
+PAIRS SEED.
 
 The printed text alone is read: from it the first LAB that breaks one of 60 to 65 is found, all
-ways tried one by one, and the judge has to name that LAB with that number, or say legal with the
-routes that follow from the printed needs.
+ways tried one by one on the printed entries, and the judge has to name that LAB with that number,
+or say legal with the routes that follow from the printed needs. The number of 70 to 75 that the
+judge gives has to follow from what is printed as wrong with the settings sheet.
 """
 
 import ctypes
@@ -14,34 +16,49 @@ import sys
 
 TOP, PAIRS, SEED = sys.argv[1], int(sys.argv[2]), int(sys.argv[3])
 sys.path.insert(0, os.path.join(TOP, "tools"))
-from sheets import GND, OPEN, VCC, answer, comb, exercise, inv, net, reg, words  # noqa: E402
+from sheets import (GND, HOUSE, OPEN, SECOND, VCC, answer, comb, exercise, inv, net, reg,  # noqa: E402
+                    settings, words)
 
 library = ctypes.CDLL(os.path.join(TOP, "target", "words", "libnurimkkot.so"))
 library.nurimkkot_judge.restype = None
-library.nurimkkot_judge.argtypes = [ctypes.c_char_p, ctypes.c_size_t, ctypes.c_char_p,
-                                    ctypes.c_size_t, ctypes.c_void_p, ctypes.c_size_t,
-                                    ctypes.c_void_p]
+library.nurimkkot_judge.argtypes = ([ctypes.c_char_p, ctypes.c_size_t] * 3
+                                    + [ctypes.c_void_p, ctypes.c_size_t, ctypes.c_void_p])
 NONE = 65535
 
 
-def judge(ex, an):
+def judge(board, ex, an):
     """Number, cell, LAB, apprentice, sheet, start and length, and the route buffer."""
     numbers = (ctypes.c_uint64 * 7)()
     route = (ctypes.c_uint8 * 8192)()
-    library.nurimkkot_judge(ex, len(ex), an, len(an), route, 8192, numbers)
+    library.nurimkkot_judge(board, len(board), ex, len(ex), an, len(an), route, 8192, numbers)
     return list(numbers), bytes(route)
 
 
 # ---------------------------------------------------------------- what is printed
 
 ROLES = ["clk", "ena", "aclr", "sclr", "sload"]
-SERVING = {"clk": (0, 1, 2), "ena": (2, 3), "aclr": (1, 4), "sclr": (4, 5), "sload": (3, 5)}
 BYTES = {"clk": (0, 1), "ena": (2, 3), "aclr": (4, 5), "sclr": (6,), "sload": (7,)}
 CELL = re.compile(r"cell (\d+): (combinational|register), flag [01](.*); "
                   r"place x (\d+) y (\d+) LE (\d+), LAB (\d+)")
 LAB = re.compile(r"lab (\d+), x (\d+) y (\d+): (\d+) cells?: ([\d ]+)")
 COUNT = re.compile(r"  (clk|\(clk, ena\)|aclr|\(sload, sclr\)|nets in|needs): (\d+)")
 BROUGHT = re.compile(r"    (\(.+?\)|GND|VCC|/?net \d+): (cell .*)")
+ENTRY = re.compile(r"  entry (\d+): (nothing|[a-z, ]+)")
+FAULTS = [(70, r"^settings: [0-5] bytes?$"), (71, "must be LXT"), (72, "must be 1 or 2"),
+          (73, "at most 8"), (74, "cut short|missing|left over"), (75, "over 31")]
+
+
+def read_board(text):
+    """The settings sheet as it is printed: the first of its faults, or 0, and its entries, each
+    with its roles."""
+    sheet = text.split("\nexercise: ")[0]
+    for number, fault in FAULTS:
+        if re.search(fault, sheet, re.MULTILINE):
+            return number, []
+    found = [ENTRY.fullmatch(line).groups() for line in sheet.splitlines()
+             if line.startswith("  entry ")]
+    assert "bad" not in sheet and [int(i) for i, _ in found] == list(range(len(found))), sheet
+    return 0, [[] if roles == "nothing" else roles.split(", ") for _, roles in found]
 
 
 def read_cells(text):
@@ -59,7 +76,7 @@ def read_cells(text):
 def read_labs(text):
     """The LABs as they are printed: number -> what it has. Each count is that of its items."""
     labs, lab, items, count = {}, None, None, None
-    for line in text.splitlines()[1:] + ["end"]:
+    for line in text[text.index("exercise: "):].splitlines()[1:] + ["end"]:
         if items is not None and not line.startswith("    "):
             assert len(items) == count, (line, items, count)
         if LAB.fullmatch(line):
@@ -119,15 +136,15 @@ def nets_in(cells, lab):
     return sorted({int(signal[4:]) for _, signal in ports if signal not in driven})
 
 
-def earliest(roles):
-    """The earliest way, found by trying all of them in their order, or None."""
-    for way in itertools.product(*[SERVING[role] for role in roles]):
-        if len(set(way)) == len(way):
+def earliest(roles, entries):
+    """The earliest way, found by trying all lists of different entries in their order, or None."""
+    for way in itertools.permutations(range(len(entries)), len(roles)):
+        if all(role in entries[entry] for role, entry in zip(roles, way)):
             return way
     return None
 
 
-def broken(lab):
+def broken(lab, entries):
     """The lowest of 60 to 65 that the printed counts break, or 0."""
     if len(lab["clk"]) > 2:
         return 60
@@ -139,7 +156,7 @@ def broken(lab):
         return 63
     if len(lab["nets in"]) > 38:
         return 64
-    if earliest([need.split()[0] for need in lab["needs"]]) is None:
+    if earliest([need.split()[0] for need in lab["needs"]], entries) is None:
         return 65
     return 0
 
@@ -149,24 +166,30 @@ def code(text):
     return 5 + 2 * n if text.startswith("/") else 4 + 2 * n
 
 
-def route_of(lab):
+def route_of(lab, entries):
     """The eight bytes that follow from the printed needs."""
     needs = [need.split(" ", 1) for need in lab["needs"]]
     order = [(ROLES.index(role), code(signal)) for role, signal in needs]
     assert order == sorted(set(order)), needs
     route = bytearray([255] * 8)
     seen = {role: 0 for role in ROLES}
-    for (role, _), entry in zip(needs, earliest([role for role, _ in needs])):
+    for (role, _), entry in zip(needs, earliest([role for role, _ in needs], entries)):
         route[BYTES[role][seen[role]]] = entry
         seen[role] += 1
     return bytes(route)
 
 
-def hold(what, ex, an, tally):
+def hold(what, board, ex, an, tally):
     """Compare the two; says nothing where a rule up to 51 is broken but that words works."""
-    text = words(ex, an, labs=True)
-    numbers, route = judge(ex or b"", an or b"")
+    text = words(ex, an, labs=True, settings=board)
+    fault, entries = read_board(text)
+    numbers, route = judge(board, ex or b"", an or b"")
     number, _, lab, _, _, start, _ = numbers
+    assert fault == (number if 70 <= number <= 75 else 0), (what, board, fault, number)
+    if fault:
+        assert numbers[1:] == [NONE, NONE, 0, 1, len(an or b""), 0], (what, numbers)
+        tally[number] = tally.get(number, 0) + 1
+        return
     if 0 < number < 60:
         tally["up to 51"] = tally.get("up to 51", 0) + 1
         return
@@ -177,20 +200,21 @@ def hold(what, ex, an, tally):
             assert has[name] == counted, (what, n, name, has[name], counted)
         assert has["nets in"] == [str(k) for k in nets_in(cells, n)], (what, n)
     assert sum(len(has["cells"]) for has in labs.values()) == len(cells), what
-    first = next(((broken(has), n) for n, has in labs.items() if broken(has)), (0, NONE))
+    first = next(((rule, n) for n, has in labs.items() for rule in [broken(has, entries)] if rule),
+                 (0, NONE))
     assert first == (number, lab), "%s: counted %s, judged %s" % (what, first, (number, lab))
     if number:
         assert start == 11 + 4 * labs[lab]["cells"][0], (what, start)
     else:
         whole = bytearray([255] * 8192)
         for n, has in labs.items():
-            whole[8 * n:8 * n + 8] = route_of(has)
+            whole[8 * n:8 * n + 8] = route_of(has, entries)
         assert route == bytes(whole), (what, "another route")
     tally[number] = tally.get(number, 0) + 1
     for has in labs.values():
         at_most = (len(has["clk"]) == 2, len(has["(clk, ena)"]) == 2, len(has["aclr"]) == 2,
                    len(has["(sload, sclr)"]) == 1, len(has["nets in"]) == 38,
-                   len(has["needs"]) == 6)
+                   len(has["needs"]) == len(entries) > 5)
         for rule, is_full in zip(range(60, 66), at_most):
             if number == 0 and is_full:
                 key = "legal, full for %d" % rule
@@ -316,6 +340,16 @@ def random_pair(rng):
             answer(rng.randint(1, 2 ** 32 - 1), *[place for _, place in cells]))
 
 
+def random_board(rng):
+    """One of the two boards, or entries that look random."""
+    if rng.random() < 0.6:
+        return rng.choice([HOUSE, SECOND])
+    often = rng.choice([0.2, 0.4, 0.7])
+    entries = [sum(1 << role for role in range(5) if rng.random() < often)
+               for _ in range(rng.choice([0, 3, 5, 6, 7, 8, 8, 8]))]
+    return settings(*entries, board=rng.choice([None, 0, 2, 65535]))
+
+
 def damaged(rng, sheet):
     """One to three bytes changed, or the end cut off."""
     sheet = bytearray(sheet)
@@ -323,12 +357,12 @@ def damaged(rng, sheet):
         return bytes(sheet[:rng.randint(0, len(sheet))])
     for _ in range(rng.randint(1, 3)):
         at = rng.randrange(len(sheet))
-        sheet[at] = rng.choice([0, 1, 2, 4, 6, rng.randrange(256)])
+        sheet[at] = rng.choice([0, 1, 2, 4, 6, 9, 32, rng.randrange(256)])
     return bytes(sheet)
 
 
 def sample_pairs():
-    """All samples: (name, exercise, answer), None for a missing sheet."""
+    """All samples: (name, settings, exercise, answer), None for a missing sheet."""
     root = os.path.join(TOP, "samples")
 
     def sheet(*path):
@@ -343,32 +377,37 @@ def sample_pairs():
         answers = [file for file in os.listdir(os.path.join(root, name))
                    if file.endswith(".lxa")] or ["answer.lxa"]
         for file in sorted(answers):
-            yield name + "/" + file, sheet(name, "exercise.lxe"), sheet(name, file)
+            yield (name + "/" + file, sheet(name, "settings.lxt"), sheet(name, "exercise.lxe"),
+                   sheet(name, file))
 
 
 def main():
     rng = random.Random(SEED)
     on_samples, on_random = {}, {}
-    for name, ex, an in sample_pairs():
-        hold(name, ex, an, on_samples)
+    for name, board, ex, an in sample_pairs():
+        for by in (HOUSE if board is None else board, SECOND):
+            hold(name, by, ex, an, on_samples)
     for k in range(PAIRS):
-        ex, an = random_pair(rng)
-        hold("pair %d" % k, ex, an, on_random)
-        assert "up to 51" not in on_random, "pair %d breaks a rule up to 51: %s" % (k, judge(ex, an)[0])
+        (ex, an), board = random_pair(rng), random_board(rng)
+        hold("pair %d" % k, board, ex, an, on_random)
+        assert "up to 51" not in on_random, \
+            "pair %d breaks a rule up to 51: %s" % (k, judge(board, ex, an)[0])
     damaged_pairs = {}
     for k in range(PAIRS // 3):
-        ex, an = random_pair(rng)
-        if rng.random() < 0.5:
-            hold("damaged exercise %d" % k, damaged(rng, ex), an, damaged_pairs)
-        else:
-            hold("damaged answer %d" % k, ex, damaged(rng, an), damaged_pairs)
+        (ex, an), board = random_pair(rng), random_board(rng)
+        which = rng.randrange(3)
+        sheets = [damaged(rng, sheet) if i == which else sheet for i, sheet in enumerate([board, ex, an])]
+        hold("damaged sheet %d of %d" % (which, k), *sheets, damaged_pairs)
+    for number in range(70, 76):
+        assert on_samples.get(number), "no sample with %d" % number
+        assert damaged_pairs.get(number), "no damaged settings sheet with %d: %s" % (number, damaged_pairs)
     for number in [0] + list(range(60, 66)):
         assert on_samples.get(number), "no sample with %d" % number
         assert on_random.get(number, 0) >= PAIRS // 100, "few random sheets with %d: %s" % (number, on_random)
         if number:
             assert on_random.get("legal, full for %d" % number), "no legal LAB at the limit of %d" % number
     count = lambda tally: sum(n for key, n in tally.items() if key == 0 or key in range(60, 66))
-    print("words: --labs counts as the judge does, on %d samples, %d random pairs and %d damaged ones"
+    print("words: --labs counts as the judge does, on %d pairs of samples, %d random pairs and %d damaged ones, each on a board"
           % (count(on_samples), count(on_random), count(damaged_pairs)))
     if os.environ.get("WORDS_TALLY"):
         print(on_samples, on_random, damaged_pairs, sep="\n")

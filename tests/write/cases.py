@@ -3,7 +3,7 @@
 import itertools
 
 import csv_sheets
-from setting import HEADINGS, answer, exercise
+from setting import HEADINGS, answer, exercise, settings
 
 # Two cells and four nets: document 01's listing.
 LISTING = ("name,kind,datain,clk,aclr,regout,dataa,combout\n"
@@ -12,6 +12,10 @@ LISTING = ("name,kind,datain,clk,aclr,regout,dataa,combout\n"
 PLACES = "apprentice,7\ncell,x,y,le\nstate,2,1,0\nlogic,2,1,0\n"
 LISTING_LXE = exercise(4, (2, 0, [4, 6, 0, 8, 0, 0, 0, 10, 0, 0, 0]), (1, 0, [10, 0, 0, 0, 0, 4, 0, 0, 0, 0, 0]))
 LISTING_LXA = answer(7, (2, 1, 0), (2, 1, 0))
+
+# Two entries: clk alone, and clk with aclr.
+BOARD = "version,2\nboard,3\nentry,clk,ena,aclr,sclr,sload\n0,x,,,,\n1,x,,x,,\n"
+BOARD_LXT = settings(2, 3, 1, 5)
 
 # What stands in exercise.csv, and the lines that refuse it.
 EXERCISE_MISTAKES = [
@@ -173,6 +177,84 @@ ANSWER_MISTAKES = [
     ("apprentice,7\ncell,x,y,le\n1,40,1,0\n0,2,1,50\n", ["line 4, column 4 (le): refused with 26: '50' " + LIMITS]),
 ]
 
+# What stands in settings.csv, and the lines that refuse it.
+VERSION, NUMBER = "the first row is the word version and the version's number", "the second row is the word board and the board's number"
+ROLE_ROW = "entry,clk,ena,aclr,sclr,sload\n"
+FIRST_ROWS = "version,1\nboard,0\n" + ROLE_ROW
+HUGE = "9" * 5000
+SETTINGS_MISTAKES = [
+    # the rows above the headings
+    ("", ["line 1: there is no row with the version"]),
+    ("\n\n,,,\n", ["line 1: there is no row with the version"]),
+    (" version ;1\n\n", ["line 1: there is no row with the board after this one"]),
+    ("\nversion,1\n\nboard,0\n", ["line 4: there is no row with the headings after this one"]),
+    ("version,x\n", ["line 1, column 2: 'x' is no number", "line 1: there is no row with the board after this one"]),
+    ("board,0\nversion,1\n" + ROLE_ROW, ["line 1, column 1: " + VERSION, "line 2, column 1: " + NUMBER]),
+    (ROLE_ROW + "0,x,,,,\n", ["line 1, column 1: " + VERSION, "line 2, column 1: " + NUMBER]),
+    ("version,1\n" + ROLE_ROW, ["line 2, column 1: " + NUMBER]),
+    ("version\nboard\n" + ROLE_ROW, ["line 1, column 2: the number is missing", "line 2, column 2: the number is missing"]),
+    ("version,one\nboard,-1\n" + ROLE_ROW, ["line 1, column 2: 'one' is no number", "line 2, column 2: '-1' is no number"]),
+    ("version,1,2\nboard,0,,x\n" + ROLE_ROW, ["line 1, column 3: '2' stands after the version's number",
+                                            "line 2, column 4: 'x' stands after the board's number"]),
+    ("version,2\nboard,65536\n" + ROLE_ROW, ["line 2, column 2: the board is at most 65535"]),
+    ("version,2\nboard," + HUGE + "\n" + ROLE_ROW, ["line 2, column 2: the board is at most 65535"]),
+    # columns
+    ("version,1\nboard,0\nentry,clk,ena,aclr,sclr\n", ["line 3: there is no column sload"]),
+    ("version,1\nboard,0\nclk,ena,aclr,sclr,sload\n", ["line 3: there is no column entry"]),
+    ("version,1\nboard,0\nentry,clk,ena,aclr,aload,sclr,sload\n", ["line 3, column 5 ('aload'): unknown column"]),
+    ("version,1\nboard,0\nentry,clk,ena,aclr,sclr,sload,CLK\n", ["line 3, column 7 (clk): a second column clk; the first is column 2"]),
+    (FIRST_ROWS + "0,x,,,,,x\n", ["line 4, column 7: there is no heading above 'x'"]),
+    # roles
+    (FIRST_ROWS + "0,y,,,,\n", ["line 4, column 2 (clk): this is x or empty, not 'y'"]),
+    (FIRST_ROWS + "0,x,,,,2\n1,,xx,-,,\n", ["line 4, column 6 (sload): this is x or empty, not '2'",
+                                           "line 5, column 3 (ena): this is x or empty, not 'xx'",
+                                           "line 5, column 4 (aclr): this is x or empty, not '-'"]),
+    # entries
+    (FIRST_ROWS + "first,x,,,,\n", ["line 4, column 1 (entry): 'first' is no number"]),
+    (FIRST_ROWS + ",x,,,,\n0.0,x,,,,\n", ["line 4, column 1 (entry): the number is missing", "line 5, column 1 (entry): '0.0' is no number"]),
+    (FIRST_ROWS + "0,x,,,,\n1,,x,,,\n00,,,x,,\n", ["line 6, column 1 (entry): entry 0 has a row already, at line 4"]),
+    (FIRST_ROWS + "1,x,,,,\n2,,x,,,\n", ["line 4, column 1 (entry): entry 0 has no row, so '1' can't stand here"]),
+    (FIRST_ROWS + "5,x,,,,\n0,,x,,,\n02,,x,,,\n", ["line 6, column 1 (entry): entry 1 has no row, so '02' can't stand here"]),
+    (FIRST_ROWS + "0,x,,,,\n" + "9" * 30 + ",,x,,,\n", ["line 5, column 1 (entry): entry 1 has no row, so '" + "9" * 30 + "' can't stand here"]),
+    # quotes and text
+    (FIRST_ROWS + '0,"x,,,,\n', ["line 4, column 2 (clk): a quote opens here and is not closed"]),
+    (FIRST_ROWS + '0,"x"y,,,,\n', ["line 4, column 2 (clk): text follows the closing quote, which is at line 4"]),
+    (b"version,1\nboard,0\nentry,clk,ena,aclr,sclr,sload\xa0\n",
+     ["line 3, column 6 ('sload\\udca0'): this is not UTF-8 text; save the file as CSV UTF-8"]),
+    (FIRST_ROWS.encode() + b"0,\xd7,,,,\n", ["line 4, column 2 (clk): this is not UTF-8 text; save the file as CSV UTF-8"]),
+]
+
+# Refusals of the writer.
+VERSIONS = "can't stand here; the version is 1 or 2, and in version 1 the board is 0"
+TOO_MANY = "refused with 73: entry 8 is one too many; a sheet has at most 8"
+SETTINGS_REFUSED = [
+    ("version,0\nboard,0\n" + ROLE_ROW, ["line 1, column 2: refused with 72: '0' " + VERSIONS]),
+    ("version,3\nboard,7\n" + ROLE_ROW, ["line 1, column 2: refused with 72: '3' " + VERSIONS]),
+    ("version,65537\nboard,0\n" + ROLE_ROW, ["line 1, column 2: refused with 72: '65537' " + VERSIONS]),
+    ("version," + HUGE + "\nboard,0\n" + ROLE_ROW, ["line 1, column 2: refused with 72: '" + "9" * 38 + "..' " + VERSIONS]),
+    ("version,1\nboard,2\n" + ROLE_ROW, ["line 2, column 2: refused with 72: '2' " + VERSIONS]),
+    (FIRST_ROWS + "".join("%d,x,,,,\n" % entry for entry in range(9)), ["line 12, column 1 (entry): " + TOO_MANY]),
+    (FIRST_ROWS + "".join("%d,,,,,\n" % entry for entry in reversed(range(300))), ["line 295, column 1 (entry): " + TOO_MANY]),
+    # 72 comes before 73
+    ("version,1\nboard,1\n" + ROLE_ROW + "".join("%d,x,,,,\n" % entry for entry in range(9)), ["line 2, column 2: refused with 72: '1' " + VERSIONS]),
+]
+
+# What stands in settings.csv and the sheet that comes from it.
+SETTINGS_TAKEN = [
+    (BOARD, BOARD_LXT),
+    ("version,1\nboard,0\nentry,clk,ena,aclr,sclr,sload", settings(1, 0)),
+    ("version,2\nboard,0\n" + ROLE_ROW, settings(2, 0)),
+    ("version,2\nboard,65535\n" + ROLE_ROW, settings(2, 65535)),
+    (" Version , 02 \nBOARD,0003\n\nSload,ENTRY,aclr,sclr,Ena,clk\n,1,x,,,X\n,0,,,,x\n", BOARD_LXT),
+    # ways of writing
+    (FIRST_ROWS + "0,x,X,1,yes,TRUE\n1,Yes,no,0,False,\n", settings(1, 0, 31, 1)),
+    # document 01's board, one entry by one and its rows in another order
+    (FIRST_ROWS + "3,,x,,,x\n0,x,,,,\n5,,,,x,x\n1,x,,x,,\n4,,,x,x,\n2,x,x\n", settings(1, 0, 1, 5, 3, 18, 12, 24)),
+    # entries that serve nothing, and the most
+    (FIRST_ROWS + "0,,,,,\n1\n\n2,,,x,,\n", settings(1, 0, 0, 0, 4)),
+    ("version,2\nboard,1\n" + ROLE_ROW + "".join("%d,x,x,x,x,x\n" % entry for entry in range(8)), settings(2, 1, *[31] * 8)),
+]
+
 # Names of digits: the names of three cells, what stands in answer.csv, and the cells that can be meant.
 DIGIT_NAMES = [
     (["0", "1", "2"], "1", [1]), (["2", "x", "y"], "2", [0, 2]), (["1", "2", "3"], "1", [0, 1]), (["1", "2", "3"], "3", [2]),
@@ -245,6 +327,19 @@ BAD_ANSWERS = [
 ]
 
 
+ENTRIES = "its length is not that of so many entries"
+
+# Settings sheets, and how csv refuses them.
+BAD_SETTINGS = [
+    (b"", "70: it has under 6 bytes"), (BOARD_LXT[:5], "70: it has under 6 bytes"), (b"LXE" + BOARD_LXT[3:], "71: it does not begin with LXT"),
+    (settings(0, 0), "72: its version is neither 1 nor 2"), (settings(3, 0), "72: its version is neither 1 nor 2"),
+    (b"LXT\1\1" + BOARD_LXT[5:], "72: its version is neither 1 nor 2"), (settings(1, 0, *[1] * 9), "73: it has more than 8 entries"),
+    (b"LXT\2\0\11", "73: it has more than 8 entries"), (b"LXT\2\0\0", "74: " + ENTRIES), (b"LXT\2\0\0\0", "74: " + ENTRIES),
+    (BOARD_LXT[:-1], "74: " + ENTRIES), (BOARD_LXT + b"\0", "74: " + ENTRIES), (BOARD_LXT + b"\0" * 100000, "74: " + ENTRIES),
+    (settings(2, 0, *[31] * 8) + b"\0", "74: " + ENTRIES), (settings(2, 0, 1, 32), "75: an entry has a flag above the five roles"),
+]
+
+
 def as_bytes(files):
     return {name: data if isinstance(data, bytes) else data.encode() for name, data in files.items()}
 
@@ -258,25 +353,27 @@ def refused(place, files, name, lines):
     assert place.found() == as_bytes(files), files
 
 
-def taken(place, files, exercise_lxe, answer_lxa=None):
+def taken(place, files, exercise_lxe=None, answer_lxa=None, settings_lxt=None):
     """write makes these sheets, and nothing else is there."""
     place.fill(files)
     said = place.refusal(csv_sheets.write)
     assert said is None, (files, said)
-    found = place.found()
-    assert found.get("exercise.lxe") == exercise_lxe and found.get("answer.lxa") == answer_lxa, (files, found)
-    assert sorted(found) == sorted(set(files) | {"exercise.lxe"} | ({"answer.lxa"} if answer_lxa else set())), (files, sorted(found))
+    sheets = {"exercise.lxe": exercise_lxe, "answer.lxa": answer_lxa, "settings.lxt": settings_lxt}
+    assert place.found() == {**as_bytes(files), **{name: sheet for name, sheet in sheets.items() if sheet is not None}}, (files, place.found())
 
 
 def mistakes(place):
-    old = {"exercise.lxe": b"old exercise", "answer.lxa": b"old answer"}
+    old = {"exercise.lxe": b"old exercise", "answer.lxa": b"old answer", "settings.lxt": b"old settings"}
     for text, lines in EXERCISE_MISTAKES + EXERCISE_REFUSED:
         refused(place, {"exercise.csv": text}, "exercise.csv", lines)
-        refused(place, {"exercise.csv": text, "answer.csv": PLACES, **old}, "exercise.csv", lines)
+        refused(place, {"exercise.csv": text, "answer.csv": PLACES, "settings.csv": BOARD, **old}, "exercise.csv", lines)
     for text, lines in ANSWER_MISTAKES:
         refused(place, {"exercise.csv": LISTING, "answer.csv": text}, "answer.csv", lines)
-        refused(place, {"exercise.csv": LISTING, "answer.csv": text, **old}, "answer.csv", lines)
-    return 2 * len(EXERCISE_MISTAKES + EXERCISE_REFUSED + ANSWER_MISTAKES)
+        refused(place, {"exercise.csv": LISTING, "answer.csv": text, "settings.csv": BOARD, **old}, "answer.csv", lines)
+    for text, lines in SETTINGS_MISTAKES + SETTINGS_REFUSED:
+        refused(place, {"settings.csv": text}, "settings.csv", lines)
+        refused(place, {"exercise.csv": LISTING, "answer.csv": PLACES, "settings.csv": text, **old}, "settings.csv", lines)
+    return 2 * len(EXERCISE_MISTAKES + EXERCISE_REFUSED + ANSWER_MISTAKES + SETTINGS_MISTAKES + SETTINGS_REFUSED)
 
 
 def digit_names(place):
@@ -294,7 +391,9 @@ def digit_names(place):
 def tables(place):
     for text, sheet in TAKEN:
         taken(place, {"exercise.csv": text}, sheet)
-    return len(TAKEN)
+    for text, sheet in SETTINGS_TAKEN:
+        taken(place, {"settings.csv": text}, settings_lxt=sheet)
+    return len(TAKEN + SETTINGS_TAKEN)
 
 
 def exported(rows, separator, newline, quotes, mark, tail):
@@ -306,13 +405,14 @@ def exported(rows, separator, newline, quotes, mark, tail):
 
 
 def exports(place):
-    """The listing as different programs and locales export it: always the same two sheets."""
+    """The listing and a board as different programs and locales export them: always the same three sheets."""
     table = [line.split(",") for line in LISTING.splitlines()]
     full = [HEADINGS] + [[dict(zip(table[0], row)).get(heading, "") for heading in HEADINGS] for row in table[1:]]
-    places = [line.split(",") for line in PLACES.splitlines()]
+    places, board = ([line.split(",") for line in text.splitlines()] for text in (PLACES, BOARD))
     styles = list(itertools.product(",;\t", ("\n", "\r\n", "\r"), (False, True), (b"", b"\xef\xbb\xbf"), (0, 3)))
     for style in styles:
-        taken(place, {"exercise.csv": exported(full, *style), "answer.csv": exported(places, *style)}, LISTING_LXE, LISTING_LXA)
+        taken(place, {"exercise.csv": exported(full, *style), "answer.csv": exported(places, *style), "settings.csv": exported(board, *style)},
+              LISTING_LXE, LISTING_LXA, BOARD_LXT)
     return len(styles)
 
 
@@ -336,9 +436,22 @@ def which_files(place):
     place.fill({"exercise.csv": "kind,clk\n2,a", "answer.csv": "apprentice,1\ncell,x,y,le\n0,1,1,1"})
     lines = csv_sheets.write(place.library, place.folder)
     assert lines == ["exercise.lxe: 1 cell, 1 net", "answer.lxa: 1 place, apprentice 1"], lines
-    wrong = [({}, "there is neither exercise.csv nor answer.csv in the folder"),
-             ({"exercise.lxe": LISTING_LXE}, "there is neither exercise.csv nor answer.csv in the folder"),
-             ({"answer.csv": PLACES}, "there is neither exercise.csv nor exercise.lxe in the folder, so answer.csv has no cells to place"),
+    # settings.csv by itself, and beside each of the others.
+    by_number = PLACES.replace("state", "0").replace("logic", "1")
+    made = ["exercise.lxe: 2 cells, 4 nets", "answer.lxa: 2 places, apprentice 7"]
+    for files, lines in (({}, []), ({"exercise.lxe": b"old", "answer.lxa": b"old"}, []), ({"exercise.csv": LISTING}, made[:1]),
+                         ({"exercise.lxe": LISTING_LXE, "answer.csv": by_number}, made[1:]), ({"exercise.csv": LISTING, "answer.csv": PLACES}, made)):
+        place.fill({**files, "settings.csv": BOARD, "settings.lxt": b"old"})
+        said = csv_sheets.write(place.library, place.folder)
+        assert said == lines + ["settings.lxt: 2 entries, version 2, board 3"] and place.found()["settings.lxt"] == BOARD_LXT, (files, said)
+    place.fill({"settings.csv": FIRST_ROWS + "0,x,,,,"})
+    assert csv_sheets.write(place.library, place.folder) == ["settings.lxt: 1 entry, version 1, board 0"]
+    # A settings sheet stays where there is no settings.csv.
+    taken(place, {"exercise.csv": LISTING, "settings.lxt": b"old"}, LISTING_LXE)
+    none = "there is neither exercise.csv nor answer.csv nor settings.csv in the folder"
+    no_cells = "there is neither exercise.csv nor exercise.lxe in the folder, so answer.csv has no cells to place"
+    wrong = [({}, none), ({"exercise.lxe": LISTING_LXE, "settings.lxt": BOARD_LXT}, none),
+             ({"answer.csv": PLACES}, no_cells), ({"answer.csv": PLACES, "settings.csv": BOARD}, no_cells),
              ({"answer.csv": PLACES, "exercise.lxe": LISTING_LXE}, "answer.csv, line 3, column 1 (cell): there is no cell 'state'"),
              ({"answer.csv": "apprentice,7\ncell,x,y,le\n0,1,1,1\n", "exercise.lxe": LISTING_LXE}, "answer.csv: cell 1 ('c1') has no place"),
              ({"answer.csv": PLACES, "exercise.lxe": b""}, "exercise.lxe is refused with 10: it has under 9 bytes")]
@@ -346,35 +459,49 @@ def which_files(place):
         place.fill(files)
         said = place.refusal(csv_sheets.write)
         assert line in said and place.found() == as_bytes(files), (files, said)
-    return 9 + len(wrong)
+    return 16 + len(wrong)
 
 
 def back_to_csv(place):
     """csv: what it writes, what it does not replace, which sheets it refuses."""
     text = (",".join(HEADINGS) + "\nc0,register,,,,,,,,,n0,n1,,n2,,,,n3\nc1,combinational,,n3,,,,,n0,,,,,,,,,\n").encode()
     places = b"apprentice,7\ncell,x,y,le\nc0,2,1,0\nc1,2,1,0\n"
-    sheets = {"exercise.lxe": LISTING_LXE, "answer.lxa": LISTING_LXA}
-    both = {"exercise.csv": text, "answer.csv": places}
-    for there in ({}, {"exercise.csv": text}, {"answer.csv": places}, both):
-        place.fill({**sheets, **there})
-        lines = csv_sheets.csv(place.library, place.folder)
-        end = lambda name: "; it was there already" if name in there else ""
-        assert lines == ["exercise.csv: 2 cells, 4 nets" + end("exercise.csv"), "answer.csv: 2 places, apprentice 7" + end("answer.csv")], lines
-        assert place.found() == {**sheets, **both}
-    place.fill({"exercise.lxe": LISTING_LXE})
-    assert csv_sheets.csv(place.library, place.folder) == ["exercise.csv: 2 cells, 4 nets"]
-    assert place.found() == {"exercise.lxe": LISTING_LXE, "exercise.csv": text}
+    sheets = {"exercise.lxe": LISTING_LXE, "answer.lxa": LISTING_LXA, "settings.lxt": BOARD_LXT}
+    all_three = {"exercise.csv": text, "answer.csv": places, "settings.csv": BOARD.encode()}
+    about = {"exercise.csv": "exercise.csv: 2 cells, 4 nets", "answer.csv": "answer.csv: 2 places, apprentice 7",
+             "settings.csv": "settings.csv: 2 entries, version 2, board 3"}
+    for count in range(4):
+        for there in map(dict, itertools.combinations(all_three.items(), count)):
+            place.fill({**sheets, **there})
+            lines = csv_sheets.csv(place.library, place.folder)
+            assert lines == [about[name] + "; it was there already" * (name in there) for name in all_three], lines
+            assert place.found() == {**sheets, **all_three}
+    # Some of the sheets.
+    some = [("exercise",), ("exercise", "answer"), ("exercise", "settings"), ("settings",)]
+    for names in some:
+        mine = {name: sheet for name, sheet in sheets.items() if name.split(".")[0] in names}
+        place.fill(mine)
+        assert csv_sheets.csv(place.library, place.folder) == [about[name + ".csv"] for name in names]
+        assert place.found() == {**mine, **{name + ".csv": all_three[name + ".csv"] for name in names}}
+    place.fill({"settings.lxt": settings(1, 0, 0)})
+    assert csv_sheets.csv(place.library, place.folder) == ["settings.csv: 1 entry, version 1, board 0"]
+    assert place.found()["settings.csv"] == (FIRST_ROWS + "0,,,,,\n").encode()
     other = "%s is there already, with other contents, and is not replaced"
     wrong = [({**sheets, "exercise.csv": LISTING.encode()}, other % "exercise.csv"), ({**sheets, "answer.csv": places[:-1]}, other % "answer.csv"),
              ({**sheets, "exercise.csv": text, "answer.csv": places + b"\n"}, other % "answer.csv"),
-             ({"answer.lxa": LISTING_LXA}, "there is no exercise.lxe in the folder"), ({}, "there is no exercise.lxe in the folder")]
+             ({**sheets, "settings.csv": BOARD.encode().upper()}, other % "settings.csv"),
+             ({"answer.lxa": LISTING_LXA}, "there is no exercise.lxe in the folder"),
+             ({"answer.lxa": LISTING_LXA, "settings.lxt": BOARD_LXT}, "there is no exercise.lxe in the folder"),
+             ({}, "there is neither exercise.lxe nor settings.lxt in the folder")]
     wrong += [({"exercise.lxe": sheet}, "exercise.lxe is refused with " + line) for sheet, line in BAD_EXERCISES]
     wrong += [({"exercise.lxe": LISTING_LXE, "answer.lxa": sheet}, "answer.lxa is refused with " + line) for sheet, line in BAD_ANSWERS]
+    wrong += [({"exercise.lxe": LISTING_LXE, "settings.lxt": sheet}, "settings.lxt is refused with " + line) for sheet, line in BAD_SETTINGS]
+    wrong += [({"settings.lxt": sheet}, "settings.lxt is refused with " + line) for sheet, line in BAD_SETTINGS]
     for files, line in wrong:
         place.fill(files)
         said = place.refusal(csv_sheets.csv)
         assert said == [line] and place.found() == files, (files, said)
-    return 5 + len(wrong)
+    return 8 + len(some) + 1 + len(wrong)
 
 
 def try_all(place):

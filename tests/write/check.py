@@ -19,7 +19,7 @@ def main():
     pages.compare(place)
     samples = round_trips.over_samples(place)
     tables, sheets = round_trips.at_random(place, TABLES, SEED)
-    print("write: %d cases, %d samples there and back, %d random tables and %d random sheets go as they should"
+    print("write: %d cases, %d sample sheets there and back, %d random tables and %d random sheets go as they should"
           % (tried, samples, tables, sheets))
 
 

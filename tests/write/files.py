@@ -2,6 +2,7 @@
 
 import errno
 import os
+import re
 import resource
 import shutil
 import signal
@@ -11,11 +12,11 @@ import sys
 import time
 
 import csv_sheets
-from cases import LISTING, LISTING_LXA, LISTING_LXE, PLACES
+from cases import BOARD, BOARD_LXT, LISTING, LISTING_LXA, LISTING_LXE, PLACES
 
-OLD = {"exercise.lxe": b"old exercise", "answer.lxa": b"old answer"}
-CSV = {"exercise.csv": LISTING.encode(), "answer.csv": PLACES.encode()}
-SHEETS = {"exercise.lxe": LISTING_LXE, "answer.lxa": LISTING_LXA}
+OLD = {"exercise.lxe": b"old exercise", "answer.lxa": b"old answer", "settings.lxt": b"old settings"}
+CSV = {"exercise.csv": LISTING.encode(), "answer.csv": PLACES.encode(), "settings.csv": BOARD.encode()}
+SHEETS = {"exercise.lxe": LISTING_LXE, "answer.lxa": LISTING_LXA, "settings.lxt": BOARD_LXT}
 
 
 class FailingSystem:
@@ -77,16 +78,16 @@ def failures(place):
             found = place.found()
             assert sorted(found) == sorted({**CSV, **SHEETS}) and {name: found[name] for name in after} == after, found
             place.fill(before)
-            assert ended(place, verb, FailingSystem(("fsync",), 2, failure)) == how, "a file that was not on the disk"
+            assert ended(place, verb, FailingSystem(("fsync",), 3, failure)) == how, "a file that was not on the disk"
     # No second names on the file system: a new CSV file is renamed.
     for error in (errno.EPERM, errno.ENOTSUP):
-        for count in (1, 2):
+        for count in (1, 2, 3):
             place.fill(SHEETS)
             system = FailingSystem(("link",), count, OSError(error, os.strerror(error)))
-            assert ended(place, csv_sheets.csv, system) == "done" and len(place.found()) == 4
+            assert ended(place, csv_sheets.csv, system) == "done" and len(place.found()) == 6
             tried += 1
     # No room for a copy of what is there.
-    for count in (1, 2):
+    for count in (1, 2, 3):
         place.fill({**CSV, **OLD})
         csv_sheets.shutil = FailingSystem(("copy2",), count, full, shutil)
         assert ended(place, csv_sheets.write, os) == "refused" and place.found() == {**CSV, **OLD}
@@ -105,17 +106,16 @@ def failures(place):
         csv_sheets.same = same
         assert ended(place, csv_sheets.csv, os) == "refused" and place.found() == {**SHEETS, name: b"mine"}, place.found()
         csv_sheets.same = check
-    return tried + 2
+    return tried + len(CSV)
 
 
 def wrong_bytes(place):
     """A writer that writes another byte, or a disk that gives one back, is found out."""
     tried = 0
     library = place.library
-    for function in ("write_exercise", "write_answer"):
+    for function, sheet in (("write_exercise", LISTING_LXE), ("write_answer", LISTING_LXA), ("write_settings", BOARD_LXT)):
         good = getattr(library, function)
-        size = len(LISTING_LXE if function == "write_exercise" else LISTING_LXA)
-        for at in range(size):
+        for at in range(len(sheet)):
             def wrong(*words):
                 number, sheet = good(*words)
                 return number, sheet[:at] + bytes([sheet[at] ^ 1]) + sheet[at + 1:] if number == 0 else sheet
@@ -126,32 +126,43 @@ def wrong_bytes(place):
                 assert said and len(said) == 1 and place.found() == before, (function, at, said)
                 tried += 1
             delattr(library, function)
-    read, place_read = csv_sheets.read_bytes, 0
-    for at in range(len(LISTING_LXE)):
-        def other(file, most):
-            data = read(file, most)
-            return data[:at] + bytes([data[at] ^ 128]) + data[at + 1:] if data[:3] == b"LXE" else data
-        csv_sheets.read_bytes = other
-        place.fill({**CSV, **OLD})
-        said = place.refusal(csv_sheets.write)
-        assert said and place.found() == {**CSV, **OLD}, (at, said)
-        place_read += 1
+    read = csv_sheets.read_bytes
+    for sheet in SHEETS.values():
+        for at in range(len(sheet)):
+            def other(file, most):
+                data = read(file, most)
+                return data[:at] + bytes([data[at] ^ 128]) + data[at + 1:] if data[:3] == sheet[:3] else data
+            csv_sheets.read_bytes = other
+            place.fill({**CSV, **OLD})
+            said = place.refusal(csv_sheets.write)
+            assert said and place.found() == {**CSV, **OLD}, (at, said)
+            tried += 1
     csv_sheets.read_bytes = read
-    return tried + place_read
+    # A refusal to which no table leads is told by its number.
+    library.write_settings, said = lambda *words: (75, b""), None
+    try:
+        csv_sheets.settings_sheet(library, csv_sheets.read_settings(CSV["settings.csv"]))
+    except csv_sheets.Refused as why:
+        said = why.lines
+    assert said == ("settings.csv: refused with 75",), said
+    del library.write_settings
+    return tried + 1
 
 
 def places_to_write(place):
     """What stands in the place of a file: a folder or a link is not replaced; a file keeps its mode."""
     path = lambda name: os.path.join(place.folder, name)
-    for name, other in (("exercise.lxe", "answer.lxa"), ("answer.lxa", "exercise.lxe")):
+    tried = 0
+    for name, other in (("exercise.lxe", "answer.lxa"), ("answer.lxa", "settings.lxt"), ("settings.lxt", "exercise.lxe")):
         for put in (os.mkdir, lambda at: os.symlink("elsewhere", at), lambda at: os.symlink(other, at), os.mkfifo):
             place.fill({**CSV, other: b"old"})
             put(path(name))
             said = place.refusal(csv_sheets.write)
             assert said == ["%s is there and is no plain file that may be written, so it is not replaced" % name], said
             with open(path(other), "rb") as file:
-                assert file.read() == b"old" and len(os.listdir(place.folder)) == 4
-    for name in ("exercise.csv", "answer.csv"):
+                assert file.read() == b"old" and len(os.listdir(place.folder)) == 5
+            tried += 1
+    for name in CSV:
         to_itself = lambda at: os.symlink(name, at)
         for put, words in ((os.mkdir, "not a plain file"), (os.mkfifo, "not a plain file"), (to_itself, os.strerror(errno.ELOOP))):
             place.fill({other: data for other, data in CSV.items() if other != name})
@@ -159,7 +170,8 @@ def places_to_write(place):
             assert place.refusal(csv_sheets.write) == ["%s can't be read: %s" % (name, words)], name
             place.fill(SHEETS)
             put(path(name))
-            assert len(place.refusal(csv_sheets.csv)) == 1 and len(os.listdir(place.folder)) == 3
+            assert len(place.refusal(csv_sheets.csv)) == 1 and len(os.listdir(place.folder)) == 4
+            tried += 2
     place.fill(SHEETS)
     os.symlink("nowhere", path("exercise.csv"))
     assert place.refusal(csv_sheets.csv) == ["exercise.csv is there already, with other contents, and is not replaced"]
@@ -168,11 +180,11 @@ def places_to_write(place):
         place.fill({**CSV, "exercise.lxe": b"old"})
         os.chmod(path("exercise.lxe"), 0o664)
         csv_sheets.write(place.library, place.folder)
-        modes = [stat.S_IMODE(os.stat(path(name)).st_mode) for name in ("exercise.lxe", "answer.lxa")]
-        assert modes == [0o664, 0o640], modes
+        modes = [stat.S_IMODE(os.stat(path(name)).st_mode) for name in SHEETS]
+        assert modes == [0o664, 0o640, 0o640], modes
     finally:
         os.umask(before)
-    return 8 + 12 + 2
+    return tried + 2
 
 
 def run(place, verb="write", **how):
@@ -183,11 +195,12 @@ def run(place, verb="write", **how):
 
 
 def as_program(place):
+    said = b"exercise.lxe: 2 cells, 4 nets\nanswer.lxa: 2 places, apprentice 7\nsettings.lxt: 2 entries, version 2, board 3\n"
     place.fill(CSV)
-    assert run(place) == (0, b"exercise.lxe: 2 cells, 4 nets\nanswer.lxa: 2 places, apprentice 7\n", [])
+    assert run(place) == (0, said, [])
     assert place.found() == {**CSV, **SHEETS}
     place.fill(SHEETS)
-    assert run(place, "csv") == (0, b"exercise.csv: 2 cells, 4 nets\nanswer.csv: 2 places, apprentice 7\n", [])
+    assert run(place, "csv") == (0, re.sub(rb"\.lx.", b".csv", said), [])
     # Mistakes: each has a line, at most twenty.
     for count, more in ((20, []), (21, ["nurimkkot: and 1 more mistake"]), (99, ["nurimkkot: and 79 more mistakes"])):
         place.fill({"exercise.csv": "kind\n" + "latch\n" * count})
@@ -216,7 +229,7 @@ def as_program(place):
         place.fill({**CSV, **OLD})
         status, out, err = run(place, preexec_fn=lambda: resource.setrlimit(resource.RLIMIT_FSIZE, (most, most)))
         assert (status, out) == (2, b"") and place.found() == {**CSV, **OLD}, err
-        assert err == ["nurimkkot: exercise.lxe and answer.lxa are not written: File too large"], err
+        assert err == ["nurimkkot: exercise.lxe, answer.lxa and settings.lxt are not written: File too large"], err
     # Another library.
     place.fill({**CSV, **OLD})
     right = place.shared_object

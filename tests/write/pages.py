@@ -29,12 +29,17 @@ def shown(text):
     return ["".join(line[4:] + "\n" for line in block.splitlines()) for block in re.findall(r"(?:^    .*\n)+", text, re.M)]
 
 
+def trimmed(table):
+    """The rows of a table without the empty fields at their ends."""
+    return [",".join(row).rstrip(",").split(",") for row in table]
+
+
 def example(place, text):
     """The two tables, what write and judge print, and the line that shows a mistake."""
     exercise, answer = list(tables(text))[:2]
     files = {name: stored(place, "write-listing", name) for name in ("exercise.csv", "answer.csv", "listing.txt")}
     assert exercise == rows(files["exercise.csv"]), exercise
-    assert [[cell for cell in row if cell] for row in answer] == rows(files["answer.csv"]), answer
+    assert trimmed(answer) == rows(files["answer.csv"]), answer
     place.fill(files)
     lines = csv_sheets.write(place.library, place.folder)
     assert "".join(line + "\n" for line in lines) in shown(text), lines
@@ -44,6 +49,27 @@ def example(place, text):
     mistake = next(block for block in shown(text) if block.startswith("nurimkkot: exercise.csv, line"))
     place.fill({"exercise.csv": files["exercise.csv"].replace(b"logic,combinational,now,next,,,,", b"logic,combinational,now,next,,clock,,")})
     assert "".join("nurimkkot: %s\n" % line for line in place.refusal(csv_sheets.write)) == mistake, mistake
+
+
+def example_board(place, text):
+    """The table of a board, what write prints, and what judge prints with the board and without."""
+    table = next(table for table in tables(text) if table[0][0] == "version")
+    sample = {name: stored(place, "write-settings", name) for name in csv_sheets.TABLES + csv_sheets.SHEETS + ("listing.txt",)}
+    assert trimmed(table) == trimmed(rows(sample["settings.csv"])), table
+    place.fill({name: sample[name] for name in csv_sheets.TABLES})
+    lines = csv_sheets.write(place.library, place.folder)
+    assert "".join(line + "\n" for line in lines) in shown(text), lines
+    assert all(place.found()[name] == sample[name] for name in csv_sheets.SHEETS), place.found()
+    assert sample["listing.txt"].decode() in shown(text)
+    number, _, apprentice = place.library.judge(sample["exercise.lxe"], sample["answer.lxa"])
+    assert "verdict %d cell - lab 34 apprentice %d\n" % (number, apprentice) in shown(text), number
+
+
+def words_of_settings(text):
+    """The section on settings.csv has every heading, and every way to say that an entry serves a role or does not."""
+    section = re.search(r"^## settings\.csv\n(.*?)^## ", text, re.M | re.S)[1]
+    found = set(re.findall(r"`([a-z0-9]+)`", section))
+    assert found >= set(csv_sheets.SETTINGS_HEADINGS) | set(csv_sheets.SERVES) - {""}, found
 
 
 def headings(text):
@@ -58,7 +84,7 @@ def lines_said(place, text):
     page = [re.match(r"`(.*)`$", row[0])[1] for table in tables(text) if table[0][0] == "it says" for row in table[1:]]
     assert len(page) == len(set(page)) > 30, page
     forms = {line: re.compile(".*".join(map(re.escape, line.split("..")))) for line in page}
-    said = {re.sub(r"^(exercise|answer)\.csv(, line \d+(, column \d+( \(.*?\))?)?)?: ", "", line) for line in place.said}
+    said = {re.sub(r"^(exercise|answer|settings)\.csv(, line \d+(, column \d+( \(.*?\))?)?)?: ", "", line) for line in place.said}
     for line, form in forms.items():
         assert any(form.fullmatch(words) for words in said), "no test says: " + line
     for words in said:
@@ -69,7 +95,9 @@ def compare(place):
     with open(os.path.join(place.top, "docs", "AUTHORS.md")) as file:
         text = file.read()
     example(place, text)
+    example_board(place, text)
     headings(text)
+    words_of_settings(text)
     lines_said(place, text)
     for target in re.findall(r"\]\(([^)#]+)", text):
         assert os.path.exists(os.path.join(place.top, "docs", target)), target

@@ -7,9 +7,9 @@ import os
 import random
 
 import csv_sheets
-from setting import HEADINGS, OUTPUTS, PORTS, answer, exercise, exercise_of
+from setting import HEADINGS, OUTPUTS, PORTS, ROLES, answer, exercise, exercise_of, settings
 
-NAMES = ("exercise.lxe", "answer.lxa")
+NAMES = ("exercise.lxe", "answer.lxa", "settings.lxt")
 
 
 # ---------------------------------------------------------------- the samples
@@ -26,23 +26,29 @@ def there_and_back(place, sheets):
 
 
 def over_samples(place):
-    """Every sheet that passes 10 to 16, or 20 to 26 beside its exercise, goes there and back; the others are refused. How many went."""
+    """Every sheet that passes 10 to 16, or 20 to 26 beside its exercise, or 70 to 75, goes there and back; the others are refused. How many went."""
     went, refused = 0, 0
+    for path in sorted(glob.glob(os.path.join(place.top, "boards", "*.lxt")) + glob.glob(os.path.join(place.top, "samples", "*", "settings.lxt"))):
+        with open(path, "rb") as file:
+            sheet = file.read()
+        went, refused = tell(place, {"settings.lxt": sheet}, place.library.settings(sheet)[0], went, refused)
+    assert went >= 3, went
     for path in sorted(glob.glob(os.path.join(place.top, "samples", "*", "exercise.lxe"))):
         with open(path, "rb") as file:
             sheet = file.read()
-        went, refused = tell(place, {"exercise.lxe": sheet}, place.library.judge(sheet, b"")[0], (20,), went, refused)
+        number = place.library.judge(sheet, b"")[0]
+        went, refused = tell(place, {"exercise.lxe": sheet}, number if number != 20 else 0, went, refused)
         for other in sorted(glob.glob(os.path.join(os.path.dirname(path), "answer*.lxa"))):
             with open(other, "rb") as file:
                 answers = file.read()
-            went, refused = tell(place, {"exercise.lxe": sheet, "answer.lxa": answers}, place.library.judge(sheet, answers)[0], (), went, refused)
+            went, refused = tell(place, {"exercise.lxe": sheet, "answer.lxa": answers}, place.library.judge(sheet, answers)[0], went, refused)
     assert went >= 150 and refused >= 30, (went, refused)
     return went + from_csv(place)
 
 
-def tell(place, sheets, number, good, went, refused):
-    """One pair of sheets with the judge's number."""
-    if number not in good and 10 <= number <= 26:
+def tell(place, sheets, number, went, refused):
+    """Some sheets with the judge's number."""
+    if 10 <= number <= 26 or 70 <= number <= 75:
         place.fill(sheets)
         said = place.refusal(csv_sheets.csv)
         assert len(said) == 1 and " is refused with %d: " % number in said[0] and place.found() == sheets, (number, said)
@@ -62,7 +68,7 @@ def from_csv(place):
         place.fill({name: data for name, data in files.items() if name.endswith(".csv")})
         assert place.refusal(csv_sheets.write) is None, path
         assert all(place.found().get(name) == files.get(name) for name in NAMES), path
-    assert len(folders) >= 2, folders
+    assert len(folders) >= 3, folders
     return len(folders)
 
 
@@ -352,10 +358,84 @@ def try_sheet(place, rng):
     return False
 
 
+# ---------------------------------------------------------------- boards
+
+def random_board(rng):
+    """A version, a board and entries: mostly of a settings sheet, and sometimes what the writer refuses."""
+    version = rng.choice((1, 1, 2, 2, 2, 2, 2, 2, 0, 3)) if rng.random() < 0.3 else rng.choice((1, 2))
+    board = rng.choice((0, 0, 1, 2, 255, 256, 65535, rng.randrange(65536))) if version != 1 or rng.random() < 0.1 else 0
+    return version, board, [rng.randrange(32) for _ in range(rng.randrange(9) if rng.random() < 0.95 else rng.choice((9, 10, 40)))]
+
+
+def board_fault(version, board, entries):
+    """The number, row and heading of what is wrong by docs/VERDICTS.md: 72, then 73. The rows are version, board, headings, entries."""
+    if version not in (1, 2):
+        return 72, 0, None
+    if version == 1 and board:
+        return 72, 1, None
+    return (73, 3 + 8, "entry") if len(entries) > 8 else None
+
+
+def settings_file(rng, export, version, board, entries):
+    """settings.csv, its rows and columns in any order, and the line and column of a row's number."""
+    headings = rng.sample(["entry"] + list(ROLES), 6)
+    yes, no = ("x", "x", "x", "1", "yes", "true"), ("", "", "", "0", "no", "false")
+    numbers = rng.sample(range(len(entries)), len(entries))
+    rows = [[export.case("version"), rng.choice(("%d", "%03d")) % version], [export.case("board"), str(board)],
+            [export.case(name) for name in headings]]
+    for number in numbers:
+        texts = {role: export.case(rng.choice(yes if entries[number] & flag else no)) for role, flag in ROLES.items()}
+        texts["entry"] = rng.choice(("%d", "%02d")) % number
+        rows.append([texts[heading] for heading in headings])
+    data, lines = export.file(rows)
+    column = headings.index("entry")
+    return data, lambda at: (lines[at][1], 2) if at < 2 else (lines[3 + numbers.index(at - 3)][column], column + 1)
+
+
+def try_board(place, rng):
+    """A board's table to its sheet, which is that of docs/SHEETS.md, and back."""
+    version, board, entries = random_board(rng)
+    data, where = settings_file(rng, Export(rng), version, board, entries)
+    wrong = board_fault(version, board, entries)
+    try:
+        sheet = csv_sheets.settings_sheet(place.library, csv_sheets.read_settings(data))
+    except csv_sheets.Refused as why:
+        assert wrong, (data, why.lines)
+        number, row, heading = wrong
+        words = "settings.csv, line %d, column %d%s: refused with %d: " % (*where(row), " (%s)" % heading if heading else "", number)
+        assert len(why.lines) == 1 and why.lines[0].startswith(words), (data, why.lines, words)
+        return True
+    assert not wrong and sheet == settings(version, board, *entries), (data, wrong, sheet)
+    rows = ["version,%d" % version, "board,%d" % board, "entry," + ",".join(ROLES)]
+    rows += [",".join([str(n)] + ["x" if flags & flag else "" for flag in ROLES.values()]) for n, flags in enumerate(entries)]
+    files = csv_sheets.settings_to_csv(place.library, sheet)
+    assert files == {"settings.csv": "".join(row + "\n" for row in rows).encode()}, files
+    return False
+
+
+def try_settings(place, rng):
+    """A settings sheet to CSV and back, byte for byte; with some bytes changed, refused by the reader's number or there and back."""
+    version = rng.choice((1, 2))
+    sheet = bytearray(settings(version, rng.randrange(65536), *[rng.randrange(32) for _ in range(rng.randrange(9))]))
+    changed = rng.random() < 0.3
+    if changed:
+        for _ in range(rng.choice((1, 1, 2))):
+            sheet[rng.randrange(len(sheet))] = rng.choice((0, 1, 2, 3, 8, 9, 31, 32, 255, rng.randrange(256)))
+        sheet = sheet[:len(sheet) - rng.choice((0, 0, 0, 1, 7))] + b"\0" * rng.choice((0, 0, 0, 1))
+    number = place.library.settings(bytes(sheet))[0]
+    try:
+        files = csv_sheets.settings_to_csv(place.library, bytes(sheet))
+    except csv_sheets.Refused as why:
+        assert changed and 70 <= number <= 75 and why.lines[0].startswith("settings.lxt is refused with %d: " % number), (sheet, why.lines)
+        return True
+    assert number == 0, number
+    assert csv_sheets.settings_sheet(place.library, csv_sheets.read_settings(files["settings.csv"])) == sheet
+    return False
+
+
 def at_random(place, count, seed):
-    """So many tables, and as many sheets. A good part is taken, and some are refused."""
+    """So many tables of exercises and of boards, and as many of their sheets. A good part is taken, and some are refused. How many there were."""
     rng = random.Random(seed)
-    tables = sum(try_table(place, rng) for _ in range(count))
-    sheets = sum(try_sheet(place, rng) for _ in range(count))
-    assert count < 500 or (count // 50 < tables < count // 3 and count // 50 < sheets < count // 2), (tables, sheets)
-    return count, count
+    refused = [sum(attempt(place, rng) for _ in range(count)) for attempt in (try_table, try_sheet, try_board, try_settings)]
+    assert count < 500 or all(count // 50 < some < count // 2 for some in refused), refused
+    return 2 * count, 2 * count

@@ -11,6 +11,7 @@ REGISTER = ["datain", "clk", "ena", "aclr", "sclr", "sload", "sdata", "regout"]
 PORTS = {"combinational": COMBINATIONAL, "register": REGISTER}
 OUTPUTS = ("combout", "cout", "regout")
 HEADINGS = ["name", "kind", "sum_lutc_input"] + COMBINATIONAL + REGISTER
+ROLES = {"clk": 1, "ena": 2, "aclr": 4, "sclr": 8, "sload": 16}
 
 
 class Setting:
@@ -59,6 +60,11 @@ def exercise(nets, *cells):
 def answer(apprentice, *places):
     """An answer sheet. A place is (x, y, LE)."""
     return b"LXA" + struct.pack("<HIH", 1, apprentice, len(places)) + b"".join(struct.pack("<4B", *place, 0) for place in places)
+
+
+def settings(version, board, *entries):
+    """A settings sheet. An entry is a byte of flags."""
+    return b"LXT" + struct.pack("<HB", version, len(entries)) + (struct.pack("<H", board) if version == 2 else b"") + bytes(entries)
 
 
 def exercise_of(rows):

@@ -3,8 +3,10 @@ use Prim.Native.Nat.{ℕ, _<_}
 use mathlib.Core.Path.{_≡_, refl, sym, ap, _∙_}
 use mathlib.Core.Bool.{false, true≢false}
 use mathlib.Core.List.{List, []}
+use native.Mathlib.Omega.{arith}
 use borrow.Author.Tests.{lt-leb}
 use Rattle.sheet.specs.Lists.{anyb, below}
+use Rattle.sheet.specs.Bytes.{byteAt}
 use Rattle.sheet.proofs.Scan.{none-at}
 use Rattle.sheet.proofs.Checks.{all-held}
 use Rattle.exercise.specs.Exercise.{cellCount}
@@ -19,9 +21,13 @@ use Rattle.placing.specs.Places.{isOutOfRange, outOfRangeAt}
 use Rattle.reader.specs.Reader.{stepOf, exerciseStepAt, placeStepOf, answerStepAt}
 use Rattle.writer.specs.Exercises.{packed, recordChecks, recordsNumber, netlistOf, ExercisePasses}
 use Rattle.writer.specs.Answers.{placementOf, AnswerPasses}
+use Rattle.settings.specs.Settings.{flags, settingsNumbers, settingsEntries}
+use Rattle.settings.proofs.Laws.{passed, flags-length}
+use Rattle.route.specs.Table.{ENTRIES}
+use Rattle.writer.specs.Boards.{boardOf, SettingsPass}
 use Rattle.writer.proofs.Again.{table-length, table-at}
 use Rattle.c_api.specs.Told.{cellTold, cellFields, placeTold, placeFields}
-use Rattle.c_api.specs.Circle.{CellsRead, PlacesRead, Circle}
+use Rattle.c_api.specs.Circle.{CellsRead, PlacesRead, BoardRead, Circle}
 
 -- ---- a record
 cell-given : (r : Record) → isMalformed r ≡ false → (cellTold (stepOf r) ≡ 0) × (cellFields (stepOf r) ≡ recordValues r)
@@ -67,5 +73,19 @@ places-read a p =
       each = λ i l. place-read a (p .1) i l .1 ∙ sym (table-at said [] (placeCount a) i l);
     }
 
+-- what is said of a settings sheet that passes
+board-read : (s : List ℕ) → SettingsPass s → BoardRead s (boardOf s)
+unfolding SettingsPass boardOf settingsNumbers settingsEntries
+board-read s p =
+    let full = flags-length s p in
+    let room = passed s p .few in
+    record {
+      told = p;
+      version = rw p;
+      board = rw p;
+      count = rw p (sym full);
+      each = λ i l. rw p (table-at (byteAt (flags s)) 0 ENTRIES i (omega arith));
+    }
+
 pub circle : Circle
-circle = record { exercise = cells-read; answer = places-read }
+circle = record { exercise = cells-read; answer = places-read; settings = board-read }

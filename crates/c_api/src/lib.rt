@@ -1,17 +1,17 @@
 use answer::Place;
+use exercise::Cell;
 use exercise::CombinationalCell;
 use exercise::RegisterCell;
 use lab_rules::LabResult;
-use list_check::CellRecord;
 use reader::AnswerStep;
 use reader::ExerciseStep;
-use writer::Cell;
 use writer::CellPlace;
 ghost use mathlib.Core.Path.{_≡_};
 ghost use mathlib.Core.Bool.{cond};
 ghost use Prim.Native.Nat.{_+_, _*_};
 ghost use lib.ListN.{length};
-ghost use Rattle.route.specs.Table.{houseBoard};
+ghost use Rattle.settings.specs.Settings.{settingsNumber, settingsNumbers, settingsEntries};
+ghost use Rattle.settings.specs.House.{houseSettings};
 ghost use Rattle.judge.specs.Call.{call};
 ghost use Rattle.judge.specs.Judge.{judged, routed};
 ghost use Rattle.exercise.specs.Exercise.{exerciseNumber};
@@ -22,6 +22,7 @@ ghost use Rattle.list_check.specs.ListCheck.{listVerdict};
 ghost use Rattle.writer.specs.Writing.{told, bufferAfter};
 ghost use Rattle.writer.specs.Exercises.{netlist, exerciseSheet, exerciseRefusal, packed};
 ghost use Rattle.writer.specs.Answers.{placement, answerSheet, answerRefusal};
+ghost use Rattle.writer.specs.Boards.{board, settingsSheet, settingsRefusal};
 ghost use Rattle.c_api.specs.Told.{sevenNumbers, cellTold, cellFields, placeTold, placeFields};
 
 fn wide8(n: u8) -> u64
@@ -55,19 +56,20 @@ fn sheet_number(of_answer: bool) -> u64
     if of_answer { 1 } else { 0 }
 }
 
-// Judges two sheets on the board of document 01. Asks nothing of the contents: sheets of any bytes, a route buffer of any length.
+// Judges an exercise and an answer on the board of a settings sheet. Asks nothing of the contents: sheets of any bytes, a route buffer of any length.
 // The route buffer is written where the verdict is 0, all 8,192 bytes of it, and left as it is otherwise.
 #[no_mangle]
 pub extern "C" fn nurimkkot_judge(
+    settings: &[u8],
     exercise: &[u8],
     answer: &[u8],
     route: &mut [u8],
     numbers: &mut [u64; 7],
 )
-    ensures routes { λ _. ⌜ now (route .exit) ≡ routed (call houseBoard (now (exercise .entry)) (now (answer .entry)) (length (now (route .entry)))) (now (route .entry)) ⌝ }
-    ensures told { λ _. ⌜ now (numbers .exit) ≡ sevenNumbers (judged (call houseBoard (now (exercise .entry)) (now (answer .entry)) (length (now (route .entry))))) ⌝ }
+    ensures routes { λ _. ⌜ now (route .exit) ≡ routed (call (now (settings .entry)) (now (exercise .entry)) (now (answer .entry)) (length (now (route .entry)))) (now (route .entry)) ⌝ }
+    ensures told { λ _. ⌜ now (numbers .exit) ≡ sevenNumbers (judged (call (now (settings .entry)) (now (exercise .entry)) (now (answer .entry)) (length (now (route .entry))))) ⌝ }
 {
-    let v = judge::judge_on(route::house_board(), exercise, answer, route);
+    let v = judge::judge_sheets(settings, exercise, answer, route);
     let culprit = v.culprit;
     let number = wide8(v.number);
     let cell = wide16(v.cell);
@@ -297,14 +299,39 @@ fn tell(result: LabResult, route: &mut [u8; 8]) -> u8
     result.number
 }
 
-// The check of one LAB on a lent list of its cell records, on the board of document 01. Asks nothing of the contents: a list of any length.
+// The check of one LAB on a lent list of its cells, on the board of a settings sheet. Asks nothing of the contents: a sheet and a list of any length.
 // The eight route bytes are written whatever the number: 255 each where it is not 0.
 #[no_mangle]
-pub extern "C" fn nurimkkot_check_lab(cells: &[CellRecord], route: &mut [u8; 8]) -> u8
-    ensures number { λ r. ⌜ r ≡ listVerdict houseBoard (now (cells .entry)) .number ⌝ }
-    ensures bytes { λ _. ⌜ now (route .exit) ≡ listVerdict houseBoard (now (cells .entry)) .bytes ⌝ }
+pub extern "C" fn nurimkkot_check_lab(settings: &[u8], cells: &[Cell], route: &mut [u8; 8]) -> u8
+    ensures number { λ r. ⌜ r ≡ listVerdict (now (settings .entry)) (now (cells .entry)) .number ⌝ }
+    ensures bytes { λ _. ⌜ now (route .exit) ≡ listVerdict (now (settings .entry)) (now (cells .entry)) .bytes ⌝ }
 {
-    tell(list_check::check_list(cells), route)
+    tell(list_check::check_list(settings, cells), route)
+}
+
+// The settings sheet of the board of document 01.
+#[no_mangle]
+pub extern "C" fn nurimkkot_house_settings(settings: &mut [u8; 12])
+    ensures { λ _. ⌜ now (settings .exit) ≡ houseSettings ⌝ }
+{
+    *settings = settings::house_settings();
+}
+
+// Reads a settings sheet: the number of 70 to 75 that applies, or 0; version, board number and entry count, and the flags of each entry, with
+// zeros past the last and where the sheet is refused.
+#[no_mangle]
+pub extern "C" fn nurimkkot_read_settings(
+    settings: &[u8],
+    numbers: &mut [u16; 3],
+    entries: &mut [u8; 8],
+) -> u8
+    ensures number { λ r. ⌜ r ≡ settingsNumber (now (settings .entry)) ⌝ }
+    ensures head { λ _. ⌜ now (numbers .exit) ≡ settingsNumbers (now (settings .entry)) ⌝ }
+    ensures flags { λ _. ⌜ now (entries .exit) ≡ settingsEntries (now (settings .entry)) ⌝ }
+{
+    *numbers = settings::settings_numbers(settings);
+    *entries = settings::settings_entries(settings);
+    settings::settings_number(settings)
 }
 
 // Writes the exercise sheet of so many nets and these cells, and its length. A refusal leaves the buffer as it is, with length 0.
@@ -337,6 +364,24 @@ pub extern "C" fn nurimkkot_write_answer(
     ensures sized { λ _. ⌜ now (size .exit) ≡ told (answerRefusal (placement apprentice (now (places .entry))) (length (now (sheet .entry)))) (answerSheet (placement apprentice (now (places .entry)))) .length ⌝ }
 {
     let written = writer::write_answer(apprentice, places, sheet);
+    *size = written.length;
+    written.number
+}
+
+// Writes the settings sheet of a version, a board's number and the flags of its entries in the same way.
+#[no_mangle]
+pub extern "C" fn nurimkkot_write_settings(
+    version: u16,
+    number: u16,
+    entries: &[u8],
+    sheet: &mut [u8],
+    size: &mut usize,
+) -> u8
+    ensures number { λ r. ⌜ r ≡ settingsRefusal (board version number (now (entries .entry))) (length (now (sheet .entry))) ⌝ }
+    ensures bytes { λ _. ⌜ now (sheet .exit) ≡ bufferAfter (settingsRefusal (board version number (now (entries .entry))) (length (now (sheet .entry)))) (settingsSheet (board version number (now (entries .entry)))) (now (sheet .entry)) ⌝ }
+    ensures sized { λ _. ⌜ now (size .exit) ≡ told (settingsRefusal (board version number (now (entries .entry))) (length (now (sheet .entry)))) (settingsSheet (board version number (now (entries .entry)))) .length ⌝ }
+{
+    let written = writer::write_settings(version, number, entries, sheet);
     *size = written.length;
     written.number
 }

@@ -2,10 +2,10 @@
 use Prim.Native.Nat.{ℕ, _+_, _*_}
 use mathlib.Core.Bool.{Bool, cond, not, _&&_, _||_}
 use mathlib.Core.List.{List, [], _∷_, map}
-use lib.ListN.{length}
+use lib.ListN.{length, getD}
 use lib.Dec.{eqb, ltb}
-use Rattle.sheet.specs.Lists.{below}
-use Rattle.sheet.specs.Bytes.{byteAt, u16At}
+use Rattle.sheet.specs.Lists.{concatMap, below}
+use Rattle.sheet.specs.Bytes.{byteAt, u16At, u16Bytes}
 use Rattle.sheet.specs.Signal.{connected, isBad, isBadOutput}
 use Rattle.exercise.specs.Exercise.{recordPart}
 use Rattle.sheet.specs.declared.Signal.{Signal}
@@ -13,6 +13,14 @@ use Rattle.exercise.specs.declared.CombinationalCell.{CombinationalCell}
 use Rattle.exercise.specs.declared.RegisterCell.{RegisterCell}
 use Rattle.exercise.specs.declared.Record.{Record}
 use Rattle.exercise.specs.declared.Record.the-variants.{Combinational, Register, Malformed}
+
+-- a cell as a caller gives it, twelve 16-bit numbers: kind and flag, which are the low and the high byte of the first, and eleven signals
+abbrev pub Cell : Type 0
+Cell = List ℕ
+
+-- "24 bytes a cell: kind, flag, eleven signals", "Numbers are little-endian"
+unfoldable pub recordBytes : Cell → List ℕ
+recordBytes c = concatMap (λ j. u16Bytes (getD c j 0)) (below 12)
 
 abbrev pub kindOf : List ℕ → ℕ
 kindOf p = byteAt p 0

@@ -25,6 +25,11 @@ pub const EXERCISE_HEADER: usize = 9;
 
 pub const RECORD_SIZE: usize = 24;
 
+// A cell as a caller gives it, in the order of its record: kind and flag, the low and the high byte of the first number, then eleven signals.
+pub const CELL_NUMBERS: usize = 12;
+
+pub type Cell = [u16; CELL_NUMBERS];
+
 // A combinational cell: sums_cin says sum_lutc_input = cin.
 pub struct CombinationalCell {
     pub sums_cin: bool,

@@ -33,8 +33,8 @@ use Rattle.judge.specs.declared.Fault.the-variants as fault
 use Rattle.judge.specs.declared.Fault.the-variants.{ExerciseHead, AnswerHead, Place, Lab}
 use Rattle.judge.specs.declared.Finding.{Finding}
 use Rattle.judge.specs.Numbers.{faultOf}
-use Rattle.judge.specs.Call.{Call}
-use Rattle.judge.specs.Judge.{Check, finding, legal, ofCell, ofLab, perCell, carryNotNext, labCells, roomChecks, exerciseGroup, answerGroup, cellGroup, placeGroup, labGroup, sheetChecks, checksTo51, checks, firstBroken, firstOr, lowestIn, culpritAt, culpritOf, verdictOf, judged}
+use Rattle.judge.specs.Call.{Call, inForce}
+use Rattle.judge.specs.Judge.{Check, finding, legal, ofCell, ofLab, perCell, carryNotNext, labCells, roomChecks, settingsGroup, exerciseGroup, answerGroup, cellGroup, placeGroup, labGroup, sheetChecks, checksTo51, checks, firstBroken, firstOr, lowestIn, culpritAt, culpritOf, verdictOf, judged}
 use Rattle.judge.specs.Demands.{AllHold, LowestCell}
 use Rattle.judge.specs.Culprit.{Inside, CulpritLaw}
 use Rattle.judge.proofs.Broken.{found, run-finds}
@@ -141,6 +141,11 @@ module _ (c : Call) where
   unfolding roomChecks AllFine faultOf
   room-fine = found-fine (roomChecks (c .room)) (search needs)
 
+  -- 70 to 75
+  settings-fine : Fine (firstBroken (settingsGroup (c .settings)))
+  unfolding settingsGroup AllFine faultOf
+  settings-fine = found-fine (settingsGroup (c .settings)) (search needs)
+
   -- 10 to 14
   exercise-head-fine : Fine (firstBroken (exerciseHead e))
   unfolding AllFine faultOf
@@ -190,18 +195,18 @@ module _ (c : Call) where
           (λ _. run Fine legal-fine 51 (carryNotNext e a) (cellCount e) (λ i m. search needs))
 
       -- 60 to 65: a LAB with a cell, and one with none
-      rules-fine : (l : ℕ) → LowestCell c l (lowestIn a (cellCount e) l) → AllFine (ofLab l (labChecks (c .table) (labCells c l)))
+      rules-fine : (l : ℕ) → LowestCell c l (lowestIn a (cellCount e) l) → AllFine (ofLab l (labChecks (inForce c) (labCells c l)))
       unfolding AllFine faultOf
       rules-fine l m = search needs
 
-      empty-fine : (l : ℕ) → members a (cellCount e) l ≡ [] → Fine (firstBroken (ofLab l (labChecks (c .table) (labCells c l))))
+      empty-fine : (l : ℕ) → members a (cellCount e) l ≡ [] → Fine (firstBroken (ofLab l (labChecks (inForce c) (labCells c l))))
       unfolding labCells
-      empty-fine l q = rw (q, empty-holds (c .table) l) legal-fine
+      empty-fine l q = rw (q, empty-holds (inForce c) l) legal-fine
 
       labs-fine : Fine (firstBroken (labGroup c))
       unfolding labGroup
       labs-fine =
-          each Fine legal-fine (λ l. ofLab l (labChecks (c .table) (labCells c l))) 1024
+          each Fine legal-fine (λ l. ofLab l (labChecks (inForce c) (labCells c l))) 1024
           (λ l _. ⊎-elim (λ q. empty-fine l q) (λ m. found-fine _ (rules-fine l m)) (lowest-cell c l))
 
   -- ---- the groups in turn
@@ -222,10 +227,11 @@ module _ (c : Call) where
   to-51-fine : Fine (firstBroken (checksTo51 c))
   unfolding checksTo51 sheetChecks
   to-51-fine =
-      turn Fine (roomChecks (c .room)) (exerciseGroup e ++ (answerGroup e a ++ (cellGroup e ++ placeGroup e a))) room-fine
+      turn Fine (roomChecks (c .room)) (settingsGroup (c .settings) ++ (exerciseGroup e ++ (answerGroup e a ++ (cellGroup e ++ placeGroup e a)))) room-fine
+      (λ _. turn Fine (settingsGroup (c .settings)) (exerciseGroup e ++ (answerGroup e a ++ (cellGroup e ++ placeGroup e a))) settings-fine
       (λ _. turn Fine (exerciseGroup e) (answerGroup e a ++ (cellGroup e ++ placeGroup e a)) exercise-fine
       (λ x. turn Fine (answerGroup e a) (cellGroup e ++ placeGroup e a) (answer-fine (long-exercise x))
-      (λ y. turn Fine (cellGroup e) (placeGroup e a) (cells-fine (long-exercise x)) (λ _. places-fine (long-exercise x) (long-answer y)))))
+      (λ y. turn Fine (cellGroup e) (placeGroup e a) (cells-fine (long-exercise x)) (λ _. places-fine (long-exercise x) (long-answer y))))))
 
   pub all-fine : Fine (firstBroken (checks c))
   unfolding checks

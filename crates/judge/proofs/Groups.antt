@@ -9,6 +9,7 @@ use lib.Dec.{eqb, ltb}
 use borrow.Author.Tests.{ne-eqb}
 use Rattle.sheet.specs.Lists.{Every, firstFrom}
 use Rattle.exercise.specs.Exercise.{cellCount, exerciseChecks, exerciseNumber}
+use Rattle.settings.specs.Settings.{settingsChecks, settingsNumber}
 use Rattle.answer.specs.Answer.{answerChecks, answerNumber, placeCount, wrongAnswerLength}
 use Rattle.sheet.proofs.Laws.{by-test}
 use Rattle.tables.specs.Records.{cellNumbers, malformed, doubleDriver}
@@ -16,12 +17,12 @@ use Rattle.netlist.specs.Cells.{cellChecks, cellNumber}
 use Rattle.placing.specs.Places.{outOfRangeAt, placeTaken}
 use Rattle.sheet.specs.Checks.{NONE}
 use Rattle.judge.specs.declared.Finding.{Finding}
-use Rattle.judge.specs.Judge.{Check, finding, check, ofSheet, perCell, carryNotNext, roomChecks, exerciseGroup, answerGroup, cellGroup, placeGroup, sheetChecks, firstBroken}
+use Rattle.judge.specs.Judge.{Check, finding, check, ofSheet, perCell, carryNotNext, roomChecks, settingsGroup, exerciseGroup, answerGroup, cellGroup, placeGroup, sheetChecks, firstBroken}
 use Rattle.judge.specs.Numbers.{numbersTo51}
 use Rattle.judge.specs.passes.Stages.{numberedAs, numbered, atCell}
 use borrow.Author.Needs.{needs}
 use Rattle.judge.proofs.Broken.{first-append, sheet-finds, run-finds, cells-find}
-use Rattle.judge.proofs.Numbers.{To51, known-numbered, every-append, run-known, exercise-known, answer-known, cells-known, cell-numbered}
+use Rattle.judge.proofs.Numbers.{To51, known-numbered, every-append, run-known, room-known, settings-known, exercise-known, answer-known, cells-known, cell-numbered}
 
 -- ---- the parts of the groups: 10 to 14; 15; 16; 20 to 25; 26; 50; 51
 abbrev pub exerciseHead : List ℕ → List Check
@@ -114,10 +115,24 @@ pub cells-places-find : (e a : List ℕ) → firstBroken (cellGroup e ++ placeGr
 unfolding cellGroup
 cells-places-find e a = in-turn (cellGroup e) (placeGroup e a) (cells-known e)
 
+-- 70 to 75
+settings-finds : (s : List ℕ) → firstBroken (settingsGroup s) ≡ finding (settingsNumber s) NONE NONE
+unfolding settingsGroup settingsNumber
+settings-finds s = sheet-finds (settingsChecks s)
+
+-- 1, and 70 to 75
+pub call-finds : (s : List ℕ) (r : ℕ) → firstBroken (roomChecks r ++ settingsGroup s) ≡ cond (not (eqb r 8192)) (finding 1 NONE NONE) (finding (settingsNumber s) NONE NONE)
+unfolding roomChecks
+call-finds s r = rw (settings-finds s)
+
+call-known : (s : List ℕ) (r : ℕ) → Every To51 (roomChecks r ++ settingsGroup s)
+call-known s r = every-append To51 (roomChecks r) (settingsGroup s) (room-known r) (settings-known s)
+
 -- 1 to 51
-pub to-51-finds : (e a : List ℕ) (r : ℕ) → firstBroken (roomChecks r ++ sheetChecks e a)
-    ≡ cond (not (eqb r 8192)) (finding 1 NONE NONE)
+pub to-51-finds : (s e a : List ℕ) (r : ℕ) → firstBroken (roomChecks r ++ (settingsGroup s ++ sheetChecks e a))
+    ≡ then (firstBroken (roomChecks r ++ settingsGroup s))
     (then (firstBroken (exerciseGroup e)) (then (firstBroken (answerGroup e a)) (firstBroken (cellGroup e ++ placeGroup e a))))
 unfolding sheetChecks roomChecks
-to-51-finds e a r =
-    rw (in-turn (exerciseGroup e) (answerGroup e a ++ (cellGroup e ++ placeGroup e a)) (group-known e), in-turn (answerGroup e a) (cellGroup e ++ placeGroup e a) (answer-known e a))
+to-51-finds s e a r =
+    in-turn (roomChecks r ++ settingsGroup s) (sheetChecks e a) (call-known s r)
+    ∙ rw (in-turn (exerciseGroup e) (answerGroup e a ++ (cellGroup e ++ placeGroup e a)) (group-known e), in-turn (answerGroup e a) (cellGroup e ++ placeGroup e a) (answer-known e a))

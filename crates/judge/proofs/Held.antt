@@ -10,8 +10,8 @@ use native.Mathlib.Omega.{arith}
 use Rattle.sheet.specs.Lists.{concatMap, from, below}
 use Rattle.sheet.specs.Checks as sheet
 use Rattle.lab_rules.specs.Rules.{labChecks}
-use Rattle.judge.specs.Call.{Call}
-use Rattle.judge.specs.Judge.{Check, perCell, ofCell, ofLab, labCells, roomChecks, exerciseGroup, answerGroup, cellGroup, placeGroup, labGroup, sheetChecks, checksTo51, checks, verdictOf, judged}
+use Rattle.judge.specs.Call.{Call, inForce}
+use Rattle.judge.specs.Judge.{Check, perCell, ofCell, ofLab, labCells, roomChecks, settingsGroup, exerciseGroup, answerGroup, cellGroup, placeGroup, labGroup, sheetChecks, checksTo51, checks, verdictOf, judged}
 use Rattle.judge.specs.Demands.{AllHold}
 use Rattle.judge.proofs.Broken as broken
 use Rattle.judge.proofs.Broken.{hold-append}
@@ -39,6 +39,7 @@ hold-number i (k ∷ ks) h = rw (h .0) (hold-number i ks (h .1))
 
 -- ---- the groups of checks 1 to 51
 pub record HeldGroups (c : Call) : Type 0 where
+  pub settings : AllHold (settingsGroup (c .settings))
   pub exercise : AllHold (exerciseGroup (c .exercise))
   pub answer : AllHold (answerGroup (c .exercise) (c .answer))
   pub cells : AllHold (cellGroup (c .exercise))
@@ -49,11 +50,12 @@ unfolding checksTo51 sheetChecks
 held-groups c h =
     let e = c .exercise in
     let a = c .answer in
-    let after-room = hold-append (roomChecks (c .room)) (exerciseGroup e ++ (answerGroup e a ++ (cellGroup e ++ placeGroup e a))) h .1 in
-    let exercise = hold-append (exerciseGroup e) (answerGroup e a ++ (cellGroup e ++ placeGroup e a)) after-room in
+    let after-room = hold-append (roomChecks (c .room)) (settingsGroup (c .settings) ++ (exerciseGroup e ++ (answerGroup e a ++ (cellGroup e ++ placeGroup e a)))) h .1 in
+    let settings = hold-append (settingsGroup (c .settings)) (exerciseGroup e ++ (answerGroup e a ++ (cellGroup e ++ placeGroup e a))) after-room in
+    let exercise = hold-append (exerciseGroup e) (answerGroup e a ++ (cellGroup e ++ placeGroup e a)) (settings .1) in
     let answer = hold-append (answerGroup e a) (cellGroup e ++ placeGroup e a) (exercise .1) in
     let cells = hold-append (cellGroup e) (placeGroup e a) (answer .1) in
-    record { exercise = exercise .0; answer = answer .0; cells = cells .0; places = cells .1 }
+    record { settings = settings .0; exercise = exercise .0; answer = answer .0; cells = cells .0; places = cells .1 }
 
 -- ---- a legal verdict
 module _ (c : Call) (legal : judged c .number ≡ 0) where
@@ -68,6 +70,6 @@ module _ (c : Call) (legal : judged c .number ≡ 0) where
   pub to-51-holds : AllHold (checksTo51 c)
   to-51-holds = parts .0
 
-  pub lab-holds : (l : ℕ) → l < 1024 → AllHold (ofLab l (labChecks (c .table) (labCells c l)))
+  pub lab-holds : (l : ℕ) → l < 1024 → AllHold (ofLab l (labChecks (inForce c) (labCells c l)))
   unfolding labGroup
-  lab-holds l h = hold-each (λ l. ofLab l (labChecks (c .table) (labCells c l))) 1024 (parts .1) l h
+  lab-holds l h = hold-each (λ l. ofLab l (labChecks (inForce c) (labCells c l))) 1024 (parts .1) l h

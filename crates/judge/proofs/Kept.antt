@@ -8,8 +8,9 @@ use native.Mathlib.Omega.{arith}
 use lib.ListN.{length}
 use lib.Dec.{ltb}
 use borrow.Author.Tests.{eqb-true, ltb-false, not-false}
-use Rattle.sheet.specs.Checks.{firstNumber}
+use Rattle.sheet.specs.Checks.{firstNumber, NONE}
 use Rattle.exercise.specs.Exercise.{netCount, cellCount, recordStart, overLimit, wrongExerciseLength}
+use Rattle.settings.specs.Settings.{settingsChecks, settingsNumber}
 use Rattle.answer.specs.Answer.{placeCount, placeStart, wrongAnswerLength}
 use Rattle.exercise.specs.Record.{isMalformed}
 use Rattle.sheet.proofs.Laws.{or-parts}
@@ -17,7 +18,7 @@ use Rattle.tables.specs.Records.{cell, malformed}
 use Rattle.netlist.specs.Cells.{cellChecks}
 use Rattle.placing.specs.Places.{outOfRangeAt, placeTaken}
 use Rattle.judge.specs.Call.{Call}
-use Rattle.judge.specs.Judge.{ofCell, exerciseGroup, answerGroup, cellGroup, placeGroup, checksTo51}
+use Rattle.judge.specs.Judge.{ofCell, settingsGroup, exerciseGroup, answerGroup, cellGroup, placeGroup, checksTo51}
 use Rattle.judge.specs.Demands.{AllHold}
 use Rattle.judge.proofs.Broken.{held, hold-append}
 use Rattle.judge.proofs.Groups.{exerciseHead, recordRun, driverRun, answerHead, rangeRun, sharedRun, carryRun}
@@ -44,6 +45,11 @@ module _ (e a : List ℕ) where
   pub answer-parts : AllHold (answerGroup e a) → AllHold (answerHead e a) × AllHold (rangeRun e a)
   unfolding answerGroup
   answer-parts h = hold-append (answerHead e a) (rangeRun e a) h
+
+-- 70 to 75
+pub settings-passed : (c : Call) → AllHold (checksTo51 c) → settingsNumber (c .settings) ≡ 0
+unfolding settingsGroup settingsNumber
+settings-passed c h = hold-number NONE (settingsChecks (c .settings)) (held-groups c h .settings)
 
 -- ---- what 13, 15, 26, 30 to 44 and 50 leave
 pub record Kept (e a : List ℕ) : Type 0 where

@@ -13,9 +13,11 @@ use Rattle.exercise.specs.passes.Known.{knownAt}
 use Rattle.exercise.specs.declared.Record.{Record}
 use Rattle.sheet.proofs.Laws.{by-test}
 use Rattle.route.specs.Table.{Table}
+use Rattle.route.proofs.AllWays.{SameServed}
 use Rattle.lab_rules.specs.Rules.{labChecks, labNumber, routeOf, labResult}
 use Rattle.lab_rules.specs.passes.Counts.{AllFit}
 use Rattle.lab_rules.specs.declared.LabResult.{LabResult}
+use Rattle.lab_rules.proofs.Served.{same-result}
 use Rattle.tables.specs.Records.{cell}
 use Rattle.placing.specs.Places.{labAt}
 use Rattle.lab_pass.specs.passes.Links.{Links, linkBelow}
@@ -26,7 +28,7 @@ use Rattle.lab_pass.proofs.Labs.{result-is-lab}
 use Rattle.lab_pass.proofs.Passing.{none-in}
 use Rattle.lab_pass.proofs.Rows.{rows-put, bytes-eight}
 use Rattle.sheet.specs.Checks.{NONE}
-use Rattle.judge.specs.Call.{Call}
+use Rattle.judge.specs.Call.{Call, inForce}
 use Rattle.judge.specs.Judge.{finding, labCells, labGroup, routeBytes, firstBroken}
 use Rattle.judge.specs.passes.Stages.{numberedAs, numberedLab}
 use Rattle.judge.proofs.Broken.{labs-find}
@@ -35,9 +37,9 @@ use Rattle.judge.proofs.Numbering.{numbered-same, numbered-none}
 use Rattle.judge.proofs.Sound.{Sound}
 
 -- 60 to 65
-pub labs-finds : (c : Call) → firstBroken (labGroup c) ≡ numberedLab (λ l. labNumber (c .table) (labCells c l))
+pub labs-finds : (c : Call) → firstBroken (labGroup c) ≡ numberedLab (λ l. labNumber (inForce c) (labCells c l))
 unfolding labGroup numberedAs labNumber
-labs-finds c = labs-find (λ l. labChecks (c .table) (labCells c l)) 1024 (λ l. lab-numbered (c .table) (labCells c l))
+labs-finds c = labs-find (λ l. labChecks (inForce c) (labCells c l)) 1024 (λ l. lab-numbered (inForce c) (labCells c l))
 
 -- two ways of reading the cells that agree give the same cells
 map-same : (f g : ℕ → Record) (p : ℕ → Bool) (i k : ℕ) → ((j : ℕ) → j < i + k → f j ≡ g j) → map f (filterb p (from i k)) ≡ map g (filterb p (from i k))
@@ -50,9 +52,10 @@ map-same f g p i (suc k) h =
 abbrev pub linked : List ℕ → ℕ → Links
 linked a n = linkBelow a (record { first = replicate 1024 NONE; next = replicate 512 NONE }) n
 
-module _ (c : Call) (s : Sound (c .exercise)) (fits : (l : ℕ) → AllFit (labCells c l)) where
+-- `u`: the table that the code has, whose entries serve what those in force do
+module _ (c : Call) (s : Sound (c .exercise)) (fits : (l : ℕ) → AllFit (labCells c l)) (u : Table) (served : SameServed u (inForce c)) where
   abbrev t : Table
-  t = c .table
+  t = inForce c
 
   abbrev e : List ℕ
   e = c .exercise
@@ -61,7 +64,7 @@ module _ (c : Call) (s : Sound (c .exercise)) (fits : (l : ℕ) → AllFit (labC
   a = c .answer
 
   abbrev resultOfLab : ℕ → LabResult
-  resultOfLab l = resultAt t (knownAt e) (linked a (cellCount e) .first) (linked a (cellCount e) .next) l
+  resultOfLab l = resultAt u (knownAt e) (linked a (cellCount e) .first) (linked a (cellCount e) .next) l
 
   members-known : (l : ℕ) → map (knownAt e) (members a (cellCount e) l) ≡ labCells c l
   unfolding labCells members
@@ -71,7 +74,8 @@ module _ (c : Call) (s : Sound (c .exercise)) (fits : (l : ℕ) → AllFit (labC
   unfolding resultAt
   result-at l h =
       rw (walk-members a (cellCount e) l (s .cells) h)
-      (result-is-lab t (knownAt e) (members a (cellCount e) l) (rw (members-known l) (fits l)) ∙ ap (labResult t) (members-known l))
+      (result-is-lab u (knownAt e) (members a (cellCount e) l) (rw (members-known l) (fits l)) ∙ ap (labResult u) (members-known l)
+      ∙ same-result u t served (labCells c l))
 
   -- 60 to 65
   pub labs-are : numberedLab (λ l. resultOfLab l .number) ≡ firstBroken (labGroup c)
@@ -93,14 +97,14 @@ module _ (c : Call) (s : Sound (c .exercise)) (fits : (l : ℕ) → AllFit (labC
 
     eight : (l : ℕ) → length (resultOfLab l .bytes) ≡ 8
     unfolding resultAt
-    eight l = bytes-eight t (knownAt e) _
+    eight l = bytes-eight u (knownAt e) _
 
     -- a LAB without cells has eight 255s
     abbrev inUse : ℕ → Bool
     inUse = hasCells (linked a (cellCount e) .first) (linked a (cellCount e) .next)
 
     none-routed : (l : ℕ) → inUse l ≡ false → resultOfLab l .bytes ≡ replicate 8 255
-    none-routed l h = ap (λ (r : LabResult). r .bytes) (none-in t (knownAt e) (linked a (cellCount e) .first) (linked a (cellCount e) .next) l h)
+    none-routed l h = ap (λ (r : LabResult). r .bytes) (none-in u (knownAt e) (linked a (cellCount e) .first) (linked a (cellCount e) .next) l h)
 
     pub routes-are : (rows : List ℕ) → ((j : ℕ) → j < length rows → getD rows j 0 ≡ 255) → length rows ≡ 8192
         → putRows inUse (λ l. resultOfLab l .bytes) rows 1024 ≡ routeBytes c

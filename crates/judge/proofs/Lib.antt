@@ -15,5 +15,6 @@ pub mod NamesCulprit
 pub mod Demand1
 pub mod Demand2
 pub mod Demand3
+pub mod AsBefore
 pub mod Steps
 pub mod Ring

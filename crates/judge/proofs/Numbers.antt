@@ -1,4 +1,4 @@
--- The numbers of the checks are those of document 01's table: 1 to 51, then 60 to 65 of the LABs. Assumes nothing.
+-- The numbers of the checks are those of the order of checking: 1 to 51 with 70 to 75, then 60 to 65 of the LABs. Assumes nothing.
 use Prim.Native.Nat.{ℕ}
 use mathlib.Core.Path.{_≡_, refl, sym, ap, _∙_}
 use mathlib.Core.Bool.{Bool, true, false, true≢false}
@@ -9,6 +9,7 @@ use borrow.Author.Tests.{eqb-true}
 use borrow.Author.Needs.{needs}
 use Rattle.sheet.specs.Lists.{Every, concatMap, elemb, below}
 use Rattle.exercise.specs.Exercise.{exerciseChecks}
+use Rattle.settings.specs.Settings.{settingsChecks}
 use Rattle.sheet.proofs.Laws.{by-test}
 use Rattle.exercise.specs.declared.Record.{Record}
 use Rattle.exercise.specs.declared.Record.the-variants.{Combinational, Register, Malformed}
@@ -16,8 +17,8 @@ use Rattle.route.specs.Table.{Table}
 use Rattle.lab_rules.specs.Rules.{labRules, labChecks}
 use Rattle.tables.specs.Records.{cell, cellNumbers}
 use Rattle.netlist.specs.Cells.{checksOf, cellChecks}
-use Rattle.judge.specs.Call.{Call}
-use Rattle.judge.specs.Judge.{Check, cellCheck, perCell, ofSheet, ofCell, ofLab, labCells, roomChecks, exerciseGroup, answerGroup, cellGroup, placeGroup, labGroup, sheetChecks, checksTo51, checks, firstBroken}
+use Rattle.judge.specs.Call.{Call, inForce}
+use Rattle.judge.specs.Judge.{Check, cellCheck, perCell, ofSheet, ofCell, ofLab, labCells, roomChecks, settingsGroup, exerciseGroup, answerGroup, cellGroup, placeGroup, labGroup, sheetChecks, checksTo51, checks, firstBroken}
 use Rattle.judge.specs.Numbers.{numbersTo51, labNumbers, refusalNumbers}
 use Rattle.judge.specs.Demands.{AllHold}
 use Rattle.judge.proofs.Broken.{Numbered, NumberedIn}
@@ -81,6 +82,10 @@ pub room-known : (r : ℕ) → Every To51 (roomChecks r)
 unfolding roomChecks
 room-known r = search needs
 
+pub settings-known : (s : List ℕ) → Every To51 (settingsGroup s)
+unfolding settingsGroup
+settings-known s = search needs
+
 pub exercise-known : (e : List ℕ) → Every To51 (ofSheet (exerciseChecks e))
 exercise-known e = search needs
 
@@ -118,7 +123,7 @@ pub lab-numbered : (t : Table) (cs : List Record) → NumberedIn (labChecks t cs
 lab-numbered t cs = search needs
 
 -- ---- all checks
-ruleset parts = (every-append, run-known, room-known, exercise-known, answer-known, cells-known, needs)
+ruleset parts = (every-append, run-known, room-known, settings-known, exercise-known, answer-known, cells-known, needs)
 
 pub to-51-known : (c : Call) → Every To51 (checksTo51 c)
 unfolding checksTo51 sheetChecks exerciseGroup placeGroup
@@ -132,7 +137,7 @@ unfolding checks labGroup
 all-known c =
     every-append (In refusalNumbers) (checksTo51 c) _
     (every-weaker To51 _ (λ k h. elem-more (k .finding .number) numbersTo51 labNumbers h) (checksTo51 c) (to-51-known c))
-    (every-joined (In refusalNumbers) (λ l. ofLab l (labChecks (c .table) (labCells c l))) (λ l. lab-known (c .table) (labCells c l) l) (below 1024))
+    (every-joined (In refusalNumbers) (λ l. ofLab l (labChecks (inForce c) (labCells c l))) (λ l. lab-known (inForce c) (labCells c l) l) (below 1024))
 
 pub all-numbered : (c : Call) → Numbered (checks c)
 all-numbered c = known-numbered refusalNumbers refl (checks c) (all-known c)

@@ -23,7 +23,7 @@ use Rattle.placing.specs.Places.{labAt}
 use Rattle.lab_pass.specs.Members.{members}
 use Rattle.sheet.specs.Checks.{NONE}
 use Rattle.judge.specs.declared.Finding.{Finding}
-use Rattle.judge.specs.Call.{Call}
+use Rattle.judge.specs.Call.{Call, inForce}
 use Rattle.judge.specs.Judge.{Check, finding, ofLab, labCells, labGroup, checksTo51, checks, firstBroken, judged, verdictOf}
 use Rattle.judge.specs.Numbers.{numbersTo51}
 use Rattle.judge.specs.Demands.{AllHold, FourThings, Keeps60to64, Keeps65, labNeeds}
@@ -72,7 +72,7 @@ none-pass p (suc k) i h = rw (h i (omega arith) (omega arith)) (none-pass p k (s
 
 module _ (c : Call) (l : ℕ) where
   abbrev t : Table
-  t = c .table
+  t = inForce c
 
   nobody : AllHold (checksTo51 c) → 1024 ≤ l → labCells c l ≡ []
   unfolding labCells members

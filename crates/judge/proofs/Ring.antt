@@ -16,7 +16,7 @@ use Rattle.placing.specs.Places.{follows, placeTaken}
 use Rattle.placing.proofs.Places.{no-ring}
 use Rattle.sheet.specs.Checks.{NONE}
 use Rattle.judge.specs.Call.{Call}
-use Rattle.judge.specs.Judge.{finding, perCell, standsApart, carryNotNext, roomChecks, exerciseGroup, answerGroup, cellGroup, placeGroup, labGroup, sheetChecks, checksTo51, checks, firstBroken, judged, verdictOf}
+use Rattle.judge.specs.Judge.{finding, perCell, standsApart, carryNotNext, roomChecks, settingsGroup, exerciseGroup, answerGroup, cellGroup, placeGroup, labGroup, sheetChecks, checksTo51, checks, firstBroken, judged, verdictOf}
 use Rattle.judge.specs.Ring.{FedBy, Ring, HoldsTo50, RingLaw}
 use Rattle.judge.proofs.Broken.{first-append, skip-held, run-finds}
 use Rattle.judge.proofs.Numbers.{to-51-numbered}
@@ -65,7 +65,8 @@ module _ (c : Call) (ring : ℕ → ℕ) (k : ℕ) (s : Ring (c .exercise) ring 
   found-first =
       let fifty = perCell 50 (placeTaken e a) (cellNumbers e) in
       let last = perCell 51 (carryNotNext e a) (cellNumbers e) in
-      skip-held (roomChecks (c .room)) (exerciseGroup e ++ (answerGroup e a ++ (cellGroup e ++ (fifty ++ last)))) (h .room)
+      skip-held (roomChecks (c .room)) (settingsGroup (c .settings) ++ (exerciseGroup e ++ (answerGroup e a ++ (cellGroup e ++ (fifty ++ last))))) (h .room)
+      ∙ skip-held (settingsGroup (c .settings)) (exerciseGroup e ++ (answerGroup e a ++ (cellGroup e ++ (fifty ++ last)))) (h .settings)
       ∙ skip-held (exerciseGroup e) (answerGroup e a ++ (cellGroup e ++ (fifty ++ last))) (h .exercise)
       ∙ skip-held (answerGroup e a) (cellGroup e ++ (fifty ++ last)) (h .answer)
       ∙ skip-held (cellGroup e) (fifty ++ last) (h .cells)

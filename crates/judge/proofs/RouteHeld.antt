@@ -24,7 +24,7 @@ use Rattle.lab_rules.specs.Rules.{needs, labChecks, labNumber, routeOf}
 use Rattle.lab_rules.proofs.Routes.{lab-legal}
 use Rattle.placing.specs.Places.{labAt}
 use Rattle.placing.proofs.Places.{lab-in-range}
-use Rattle.judge.specs.Call.{Call}
+use Rattle.judge.specs.Call.{Call, inForce}
 use Rattle.judge.specs.Judge.{labCells, occupied, judged, routeBytes, routed}
 use Rattle.judge.specs.Demands.{AllHold, labNeeds, byteOf, HoldsFirstWay}
 use Rattle.judge.proofs.FitCells.{lab-fit}
@@ -58,7 +58,7 @@ route-eight ns (some w) = refl
 -- ---- a legal verdict
 module _ (c : Call) (before : List ℕ) (legal : judged c .number ≡ 0) where
   abbrev t : Table
-  t = c .table
+  t = inForce c
 
   abbrev e : List ℕ
   e = c .exercise

@@ -13,7 +13,10 @@ use Rattle.sheet.specs.Lists.{filterb, elemb, from, firstFrom}
 use Rattle.sheet.specs.Bytes.{beginsAt}
 use Rattle.exercise.specs.Exercise.{netCount, cellCount, exerciseNumber}
 use Rattle.answer.specs.Answer.{answerNumber, placeCount, wrongAnswerLength, placeStart}
-use Rattle.route.specs.Table.{Table, houseBoard}
+use Rattle.route.specs.Table.{Table, eightRows}
+use Rattle.settings.specs.Settings.{settingsNumber}
+use Rattle.settings.proofs.Laws.{same-table}
+use Rattle.route.proofs.AllWays.{SameServed}
 use Rattle.sheet.proofs.Laws.{by-test}
 use Rattle.lab_rules.specs.passes.Counts.{AllFit}
 use Rattle.tables.specs.Records.{cell, malformed}
@@ -34,15 +37,15 @@ use Rattle.judge.specs.declared.Fault.{Fault}
 use Rattle.judge.specs.declared.Finding.{Finding}
 use Rattle.judge.specs.declared.Part.{Part}
 use Rattle.judge.specs.declared.Verdict.{Verdict}
-use Rattle.judge.specs.Call.{Call, call}
-use Rattle.judge.specs.Judge.{finding, legal, ofAnswer, roomChecks, exerciseGroup, answerGroup, cellGroup, placeGroup, labGroup, sheetChecks, checksTo51, checks, labCells, firstBroken, firstOr, lowestIn, culpritAt, culpritOf, verdictOf, judged, bytesOf, addressOf, routeBytes, routed}
+use Rattle.judge.specs.Call.{Call, call, inForce}
+use Rattle.judge.specs.Judge.{finding, legal, ofAnswer, roomChecks, settingsGroup, exerciseGroup, answerGroup, cellGroup, placeGroup, labGroup, sheetChecks, checksTo51, checks, labCells, firstBroken, firstOr, lowestIn, culpritAt, culpritOf, verdictOf, judged, bytesOf, addressOf, routeBytes, routed}
 use Rattle.judge.specs.Numbers.{faultOf}
 use Rattle.judge.specs.Culprit.{Inside, CulpritLaw}
 use Rattle.judge.specs.passes.Stages.{numberedAs, numbered, numberedLab, placedBy}
 use Rattle.judge.specs.Judge.{numbersOf}
 use Rattle.judge.proofs.Broken.{first-append}
 use Rattle.judge.proofs.Numbers.{to-51-numbered}
-use Rattle.judge.proofs.Groups.{then, exercise-finds, answer-finds, cells-finds, cells-places-find, to-51-finds}
+use Rattle.judge.proofs.Groups.{then, exercise-finds, answer-finds, cells-finds, cells-places-find, call-finds, to-51-finds}
 use Rattle.judge.proofs.CulpritInside.{culprit-inside}
 use Rattle.judge.proofs.FitCells.{lab-fit}
 use Rattle.judge.proofs.LabsFound.{linked, labs-are, routes-are}
@@ -190,30 +193,54 @@ module _ (e a : List ℕ) (passed : firstBroken (exerciseGroup e) .number ≡ 0)
 
 pub ruleset cells-steps = (cells-stop, cells-go)
 
+-- ---- 1, and 70 to 75
+module _ (s : List ℕ) (room : ℕ) where
+  pub call-room : {r : Finding} → (room ≡ 8192 → ⊥) → r ≡ finding 1 NONE NONE → r ≡ firstBroken (roomChecks room ++ settingsGroup s)
+  call-room h q = rw call-finds (rw (ne-eqb room 8192 h) q)
+
+  -- 70 to 75
+  pub call-settings : (n : ℕ) {r : Finding} → room ≡ 8192 → n ≡ settingsNumber s → r ≡ finding n NONE NONE → r ≡ firstBroken (roomChecks room ++ settingsGroup s)
+  call-settings n h y q = rw call-finds (rw (eq-eqb room 8192 h) (q ∙ ap (λ (m : ℕ). finding m NONE NONE) y))
+
+  -- nothing is found: the room is right, and the settings sheet passes
+  call-passed : firstBroken (roomChecks room ++ settingsGroup s) .number ≡ 0 → (room ≡ 8192) × (settingsNumber s ≡ 0)
+  call-passed h =
+      by-test (eqb room 8192) (λ q. (eqb-true room 8192 q, rw (call-finds, q) at h))
+      (λ q. let z : _≡_ {A = ℕ} 1 0 = rw (call-finds, q) at h in absurd (omega arith))
+
+pub ruleset call-steps = (call-room, call-settings)
+
 -- ---- 1 to 51
-module _ (e a : List ℕ) (room : ℕ) where
-  pub to-room : {r : Finding} → (room ≡ 8192 → ⊥) → r ≡ finding 1 NONE NONE → r ≡ firstBroken (roomChecks room ++ sheetChecks e a)
-  to-room h q = rw to-51-finds (rw (ne-eqb room 8192 h) q)
+module _ (s e a : List ℕ) (room : ℕ) (c : Finding) (k : c ≡ firstBroken (roomChecks room ++ settingsGroup s)) where
+  pub to-call : (c .number ≡ 0 → ⊥) → c ≡ firstBroken (roomChecks room ++ (settingsGroup s ++ sheetChecks e a))
+  to-call h = rw to-51-finds (then-stays (firstBroken (roomChecks room ++ settingsGroup s)) _ (λ z. h (ap (λ (m : Finding). m .number) k ∙ z)) k)
 
-  module _ (f : Finding) (whole : room ≡ 8192) (x : f ≡ firstBroken (exerciseGroup e)) where
-    pub to-exercise : (f .number ≡ 0 → ⊥) → f ≡ firstBroken (roomChecks room ++ sheetChecks e a)
-    to-exercise h = rw to-51-finds (rw (eq-eqb room 8192 whole) (then-stays (firstBroken (exerciseGroup e)) _ (λ z. h (ap (λ (k : Finding). k .number) x ∙ z)) x))
+  -- where the call passes, what 10 to 51 find
+  past-call : {r : Finding} → c .number ≡ 0
+      → r ≡ then (firstBroken (exerciseGroup e)) (then (firstBroken (answerGroup e a)) (firstBroken (cellGroup e ++ placeGroup e a)))
+      → r ≡ firstBroken (roomChecks room ++ (settingsGroup s ++ sheetChecks e a))
+  past-call h q = rw to-51-finds (then-goes (firstBroken (roomChecks room ++ settingsGroup s)) _ (ap (λ (m : Finding). m .number) (sym k) ∙ h) q)
 
-    pub passed-exercise : f .number ≡ 0 → firstBroken (exerciseGroup e) .number ≡ 0
-    passed-exercise h = ap (λ (k : Finding). k .number) (sym x) ∙ h
+  module _ (f : Finding) (passed : c .number ≡ 0) (x : f ≡ firstBroken (exerciseGroup e)) where
+    pub to-exercise : (f .number ≡ 0 → ⊥) → f ≡ firstBroken (roomChecks room ++ (settingsGroup s ++ sheetChecks e a))
+    to-exercise h = past-call passed (then-stays (firstBroken (exerciseGroup e)) _ (λ z. h (ap (λ (m : Finding). m .number) x ∙ z)) x)
+
+    passed-exercise : f .number ≡ 0 → firstBroken (exerciseGroup e) .number ≡ 0
+    passed-exercise h = ap (λ (m : Finding). m .number) (sym x) ∙ h
 
     module _ (g : Finding) (none : f .number ≡ 0) (y : g ≡ firstBroken (answerGroup e a)) where
-      pub to-answer : (g .number ≡ 0 → ⊥) → g ≡ firstBroken (roomChecks room ++ sheetChecks e a)
+      pub to-answer : (g .number ≡ 0 → ⊥) → g ≡ firstBroken (roomChecks room ++ (settingsGroup s ++ sheetChecks e a))
       to-answer h =
-          rw to-51-finds (rw (eq-eqb room 8192 whole) (then-goes (firstBroken (exerciseGroup e)) _ (passed-exercise none)
-          (then-stays (firstBroken (answerGroup e a)) _ (λ z. h (ap (λ (k : Finding). k .number) y ∙ z)) y)))
+          past-call passed (then-goes (firstBroken (exerciseGroup e)) _ (passed-exercise none)
+          (then-stays (firstBroken (answerGroup e a)) _ (λ z. h (ap (λ (m : Finding). m .number) y ∙ z)) y))
 
-      pub to-cells : {r : Finding} → g .number ≡ 0 → r ≡ firstBroken (cellGroup e ++ placeGroup e a) → r ≡ firstBroken (roomChecks room ++ sheetChecks e a)
+      pub to-cells : {r : Finding} → g .number ≡ 0 → r ≡ firstBroken (cellGroup e ++ placeGroup e a)
+          → r ≡ firstBroken (roomChecks room ++ (settingsGroup s ++ sheetChecks e a))
       to-cells h q =
-          rw to-51-finds (rw (eq-eqb room 8192 whole) (then-goes (firstBroken (exerciseGroup e)) _ (passed-exercise none)
-          (then-goes (firstBroken (answerGroup e a)) _ (ap (λ (k : Finding). k .number) (sym y) ∙ h) q)))
+          past-call passed (then-goes (firstBroken (exerciseGroup e)) _ (passed-exercise none)
+          (then-goes (firstBroken (answerGroup e a)) _ (ap (λ (m : Finding). m .number) (sym y) ∙ h) q))
 
-pub ruleset to-51-steps = (to-room, to-exercise, to-answer, to-cells)
+pub ruleset to-51-steps = (to-call, to-exercise, to-answer, to-cells)
 
 -- ---- the lowest cell of a LAB: none of the cells below i stands there
 pub record Lowest (a : List ℕ) (n l i : ℕ) : Type 0 where
@@ -289,7 +316,7 @@ rows-size some g rows l p = sym (rw p (rows-long some g blank l ∙ blank-size))
 -- ---- 60 to 65, of sheets that pass 1 to 51
 module _ (c : Call) (passed : firstBroken (checksTo51 c) .number ≡ 0) where
   abbrev t : Table
-  t = c .table
+  t = inForce c
 
   abbrev e : List ℕ
   e = c .exercise
@@ -297,25 +324,32 @@ module _ (c : Call) (passed : firstBroken (checksTo51 c) .number ≡ 0) where
   abbrev a : List ℕ
   a = c .answer
 
-  past-room : (c .room ≡ 8192) × (then (firstBroken (exerciseGroup e)) (then (firstBroken (answerGroup e a)) (firstBroken (cellGroup e ++ placeGroup e a))) .number ≡ 0)
+  abbrev found51 : Finding
+  found51 = then (firstBroken (exerciseGroup e)) (then (firstBroken (answerGroup e a)) (firstBroken (cellGroup e ++ placeGroup e a)))
+
+  past : (firstBroken (roomChecks (c .room) ++ settingsGroup (c .settings)) .number ≡ 0) × (found51 .number ≡ 0)
   unfolding checksTo51
-  past-room =
-      let found : firstBroken (roomChecks (c .room) ++ sheetChecks e a) .number ≡ 0 = passed in
-      by-test (eqb (c .room) 8192) (λ q. (eqb-true (c .room) 8192 q, rw (to-51-finds, q) at found))
-      (λ q. let z : _≡_ {A = ℕ} 1 0 = rw (to-51-finds, q) at found in absurd (omega arith))
+  past =
+      let call = firstBroken (roomChecks (c .room) ++ settingsGroup (c .settings)) in
+      let found : firstBroken (roomChecks (c .room) ++ (settingsGroup (c .settings) ++ sheetChecks e a)) .number ≡ 0 = passed in
+      (then-first call found51 (rw to-51-finds at found), then-second call found51 (rw to-51-finds at found))
 
   pub whole-room : c .room ≡ 8192
-  whole-room = past-room .0
+  whole-room = call-passed (c .settings) (c .room) (past .0) .0
+
+  -- the eight rows that the code has serve what the table in force does
+  served : SameServed (eightRows t) t
+  served = same-table (c .settings) (call-passed (c .settings) (c .room) (past .0) .1)
 
   past-exercise : firstBroken (exerciseGroup e) .number ≡ 0
-  past-exercise = then-first (firstBroken (exerciseGroup e)) _ (past-room .1)
+  past-exercise = then-first (firstBroken (exerciseGroup e)) _ (past .1)
 
   sound : Sound e
   sound = sound-of e past-exercise
 
   cell-zero : (i : ℕ) → i < cellCount e → cellNumber e i ≡ 0
   cell-zero =
-      let past = then-second (firstBroken (answerGroup e a)) _ (then-second (firstBroken (exerciseGroup e)) _ (past-room .1)) in
+      let past = then-second (firstBroken (answerGroup e a)) _ (then-second (firstBroken (exerciseGroup e)) _ (past .1)) in
       let cells = then-first (firstBroken (cellGroup e)) (firstBroken (placeGroup e a)) (rw cells-places-find at past) in
       numbered-none _ (λ m i. refl) (cellNumber e) (cellCount e) (rw cells-finds at cells)
 
@@ -323,30 +357,34 @@ module _ (c : Call) (passed : firstBroken (checksTo51 c) .number ≡ 0) where
   unfolding cellNumber
   fits = lab-fit c (sound .nets) cell-zero
 
-  module _ (cells : ℕ) (first next : List ℕ) (n : cells ≡ cellCount e)
+  module _ (u : Table) (rows : u ≡ eightRows t) (cells : ℕ) (first next : List ℕ) (n : cells ≡ cellCount e)
       (x : first ≡ linked a cells .first) (y : next ≡ linked a cells .next)
-      (l : LowestBroken) (found : l ≡ lowestBroken t (knownAt e) first next) (f : Finding) where
-    lab-group : f ≡ numberedLab (λ k. resultAt t (knownAt e) first next k .number) → f ≡ firstBroken (labGroup c)
-    lab-group q = q ∙ rw (x, y, n) (labs-are c sound fits)
+      (l : LowestBroken) (found : l ≡ lowestBroken u (knownAt e) first next) (f : Finding) where
+    serves-same : SameServed u t
+    serves-same = rw rows served
+
+    lab-group : f ≡ numberedLab (λ k. resultAt u (knownAt e) first next k .number) → f ≡ firstBroken (labGroup c)
+    lab-group q = q ∙ rw (x, y, n) (labs-are c sound fits u serves-same)
 
     pub labs-stop : (before : List ℕ) → l .lab < 1024 → f ≡ finding (l .number) NONE (l .lab)
         → (f ≡ firstBroken (labGroup c)) × (before ≡ cond (eqb (f .number) 0) (routeBytes c) before)
     labs-stop before h q =
-        let some : f .number ≡ 0 → ⊥ = λ z. lab-refused t (knownAt e) first next l found h (ap (λ (z : Finding). z .number) (sym q) ∙ z) in
-        (lab-group (lab-broken t (knownAt e) first next l found h q), rw (ne-eqb (f .number) 0 some))
+        let some : f .number ≡ 0 → ⊥ = λ z. lab-refused u (knownAt e) first next l found h (ap (λ (z : Finding). z .number) (sym q) ∙ z) in
+        (lab-group (lab-broken u (knownAt e) first next l found h q), rw (ne-eqb (f .number) 0 some))
 
-    pub labs-go : (before after rows : List ℕ) → 1024 ≤ l .lab → f ≡ legal
-        → rows ≡ putRows (hasCells first next) (λ k. resultAt t (knownAt e) first next k .bytes) blank (l .lab) → after ≡ rows
+    pub labs-go : (before after written : List ℕ) → 1024 ≤ l .lab → f ≡ legal
+        → written ≡ putRows (hasCells first next) (λ k. resultAt u (knownAt e) first next k .bytes) blank (l .lab) → after ≡ written
         → (f ≡ firstBroken (labGroup c)) × (after ≡ cond (eqb (f .number) 0) (routeBytes c) before)
-    labs-go before after rows h q p o =
+    labs-go before after written h q p o =
         let none : f .number ≡ 0 = ap (λ (z : Finding). z .number) q in
-        let group = lab-group (labs-kept t (knownAt e) first next l found h q) in
+        let group = lab-group (labs-kept u (knownAt e) first next l found h q) in
         let held : firstBroken (labGroup c) .number ≡ 0 = ap (λ (z : Finding). z .number) (sym group) ∙ none in
-        let all = labs-all t (knownAt e) first next l found h in
-        (group, rw (eq-eqb (f .number) 0 none) (o ∙ p ∙ rw (all, x, y, n) (routes-are c sound fits held blank blank-bytes blank-size)))
+        let all = labs-all u (knownAt e) first next l found h in
+        (group, rw (eq-eqb (f .number) 0 none) (o ∙ p ∙ rw (all, x, y, n) (routes-are c sound fits u serves-same held blank blank-bytes blank-size)))
 
 -- ---- the whole verdict
-module _ (c : Call) (before : List ℕ) (f : Finding) (x : f ≡ firstBroken (roomChecks (c .room) ++ sheetChecks (c .exercise) (c .answer))) where
+module _ (c : Call) (before : List ℕ) (f : Finding)
+    (x : f ≡ firstBroken (roomChecks (c .room) ++ (settingsGroup (c .settings) ++ sheetChecks (c .exercise) (c .answer)))) where
   to-51 : f ≡ firstBroken (checksTo51 c)
   unfolding checksTo51
   to-51 = x
@@ -383,15 +421,15 @@ begins-inside e a at-e at-a p h =
     (λ b. let low : min (p .start) (length a) ≡ p .start = omega (arith, rw b at h) in rw (b, low))
     (λ b. let low : min (p .start) (length e) ≡ p .start = omega (arith, rw b at h) in rw (b, low))
 
-pub handed-out : (t : Table) (e a before after : List ℕ) (v : Verdict) (part : List ℕ) (at-e at-a at : ℕ × ℕ) (number cell lab : ℕ) → t ≡ houseBoard
-    → v ≡ judged (call t e a (length before)) → after ≡ routed (call t e a (length before)) before → part ≡ bytesOf e a (v .culprit)
+pub handed-out : (s e a before after : List ℕ) (v : Verdict) (part : List ℕ) (at-e at-a at : ℕ × ℕ) (number cell lab : ℕ)
+    → let c = call s e a (length before) in
+    v ≡ judged c → after ≡ routed c before → part ≡ bytesOf e a (v .culprit)
     → at ≡ cond (v .culprit .«of_answer») (beginsAt at-a (min (v .culprit .start) (length a))) (beginsAt at-e (min (v .culprit .start) (length e)))
     → number ≡ v .number → cell ≡ v .cell → lab ≡ v .lab
-    → let c = call houseBoard e a (length before) in
-    (part ≡ bytesOf e a (judged c .culprit))
+    → (part ≡ bytesOf e a (judged c .culprit))
     × ((at ≡ addressOf at-e at-a (judged c .culprit))
     × ((after ≡ routed c before) × (number ∷ cell ∷ lab ∷ v .apprentice ∷ [] ≡ numbersOf (judged c))))
 unfolding CulpritLaw
-handed-out t e a before after v part at-e at-a at number cell lab h x y p o n m l =
-    let inside : Inside e a (v .culprit) = rw x (culprit-inside (call t e a (length before))) in
-    (p ∙ rw (x, h), (o ∙ begins-inside e a at-e at-a (v .culprit) inside ∙ rw (x, h), (y ∙ rw h, rw (n, m, l, x, h))))
+handed-out s e a before after v part at-e at-a at number cell lab x y p o n m l =
+    let inside : Inside e a (v .culprit) = rw x (culprit-inside (call s e a (length before))) in
+    (p ∙ rw x, (o ∙ begins-inside e a at-e at-a (v .culprit) inside ∙ rw x, (y, rw (n, m, l, x))))

@@ -2,14 +2,19 @@
 use Prim.Native.Nat.{ℕ}
 use mathlib.Core.List.{List}
 use Rattle.route.specs.Table.{Table}
+use Rattle.settings.specs.Settings.{tableOf}
 
--- "an exercise sheet .., an answer sheet .. and a lent route buffer", and the entry table in force
+-- "an exercise sheet .., an answer sheet .. and a lent route buffer", and the settings sheet of M-102
 pub record Call : Type 0 where
-  pub table : Table
+  pub settings : List ℕ
   pub exercise : List ℕ
   pub answer : List ℕ
   -- the route buffer's length
   pub room : ℕ
 
-abbrev pub call : Table → List ℕ → List ℕ → ℕ → Call
-call t e a r = record { table = t; exercise = e; answer = a; room = r }
+abbrev pub call : List ℕ → List ℕ → List ℕ → ℕ → Call
+call s e a r = record { settings = s; exercise = e; answer = a; room = r }
+
+-- M-102: "Every judgement then takes the table in force"
+abbrev pub inForce : Call → Table
+inForce c = tableOf (c .settings)

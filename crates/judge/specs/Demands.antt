@@ -15,14 +15,15 @@ use Rattle.route.specs.Way.{Way, Earlier}
 use Rattle.route.specs.Route.{byteOfNeed}
 use Rattle.lab_rules.specs.Rules.{needs, labRules}
 use Rattle.judge.specs.declared.Verdict.{Verdict}
-use Rattle.judge.specs.Call.{Call}
+use Rattle.judge.specs.Call.{Call, inForce}
 use Rattle.judge.specs.Judge.{Check, checks, checksTo51, ofLab, labCells, occupied, ofExercise, ofAnswer, judged, routed, verdictOf}
 
--- the numbers of document 01's table that a judgement can give
+-- the numbers that a judgement can give: document 01's, and 70 to 75 of M-102
 abbrev pub numbers : List ℕ
 numbers =
     0 ∷ 1 ∷ 10 ∷ 11 ∷ 12 ∷ 13 ∷ 14 ∷ 15 ∷ 16 ∷ 20 ∷ 21 ∷ 22 ∷ 23 ∷ 24 ∷ 25 ∷ 26
-    ∷ 30 ∷ 31 ∷ 32 ∷ 33 ∷ 34 ∷ 35 ∷ 40 ∷ 41 ∷ 42 ∷ 43 ∷ 44 ∷ 50 ∷ 51 ∷ 60 ∷ 61 ∷ 62 ∷ 63 ∷ 64 ∷ 65 ∷ []
+    ∷ 30 ∷ 31 ∷ 32 ∷ 33 ∷ 34 ∷ 35 ∷ 40 ∷ 41 ∷ 42 ∷ 43 ∷ 44 ∷ 50 ∷ 51 ∷ 60 ∷ 61 ∷ 62 ∷ 63 ∷ 64 ∷ 65
+    ∷ 70 ∷ 71 ∷ 72 ∷ 73 ∷ 74 ∷ 75 ∷ []
 
 -- the number of a verdict is one of these
 abbrev pub OneOf : Verdict → List ℕ → Type 0
@@ -36,8 +37,8 @@ pub record LowestCell (c : Call) (l i : ℕ) : Type 0 where
 
 -- "a refusal names its culprit": for each number which part of which sheet that is, with document 01's numbers written out
 pub record NamesCulprit (c : Call) (v : Verdict) : Type 0 where
-  -- "for 0 and 1 the empty part at the answer's end"
-  pub call : OneOf v (0 ∷ 1 ∷ []) → v .culprit ≡ ofAnswer (length (c .answer)) 0
+  -- "for 0 and 1 the empty part at the answer's end"; 70 to 75 with "the culprit of 1"
+  pub call : OneOf v (0 ∷ 1 ∷ 70 ∷ 71 ∷ 72 ∷ 73 ∷ 74 ∷ 75 ∷ []) → v .culprit ≡ ofAnswer (length (c .answer)) 0
   -- "for 10 to 14 the first 9 bytes of the exercise (all of them if fewer)"
   pub exercise-head : OneOf v (10 ∷ 11 ∷ 12 ∷ 13 ∷ 14 ∷ []) → v .culprit ≡ ofExercise 0 (min 9 (length (c .exercise)))
   -- "for 15, 16 and 30 to 44 that cell's exercise record"
@@ -64,13 +65,14 @@ pub record FirstBroken (k : Check) (ks : List Check) : Type 0 where
   pub broken : k .broken ≡ true
 
 -- DEMAND 1. "exactly one numbered verdict"; "a refusal names its culprit"; "a refusal .. leaves the route buffer untouched"; "the apprentice
--- number comes from the answer sheet only", "0 for numbers 1 to 23"
+-- number comes from the answer sheet only", "0 for numbers 1 to 23" and 70 to 75
 pub record Demand1 : Type 0 where
   pub one-number : (c : Call) → elemb (judged c .number) numbers ≡ true
   pub names-culprit : (c : Call) → NamesCulprit c (judged c)
   pub untouched : (c : Call) (before : List ℕ) → (judged c .number ≡ 0 → ⊥) → routed c before ≡ before
   pub apprentice-only : (c : Call) → judged c .apprentice
-      ≡ cond (elemb (judged c .number) (1 ∷ 10 ∷ 11 ∷ 12 ∷ 13 ∷ 14 ∷ 15 ∷ 16 ∷ 20 ∷ 21 ∷ 22 ∷ 23 ∷ [])) 0 (apprentice (c .answer))
+      ≡ cond (elemb (judged c .number) (1 ∷ 10 ∷ 11 ∷ 12 ∷ 13 ∷ 14 ∷ 15 ∷ 16 ∷ 20 ∷ 21 ∷ 22 ∷ 23 ∷ 70 ∷ 71 ∷ 72 ∷ 73 ∷ 74 ∷ 75 ∷ [])) 0
+      (apprentice (c .answer))
 
 -- DEMAND 2. "The verdict is legal exactly if every rule in document 01 holds; otherwise it is the first broken one, in 01's order"
 pub record Demand2 : Type 0 where
@@ -78,7 +80,7 @@ pub record Demand2 : Type 0 where
   pub else-the-first : (c : Call) (k : Check) → FirstBroken k (checks c) → judged c ≡ verdictOf (c .exercise) (c .answer) (k .finding)
   pub one-or-other : (c : Call) → AllHold (checks c) ⊎ ((k : Check) × FirstBroken k (checks c))
 
--- ---- demand 3, of a call
+-- ---- demand 3, of a call: "demand 3 speaks of that table", the one in force
 module _ (c : Call) where
   -- the needs of LAB l, in need order
   unfoldable pub labNeeds : ℕ → List Need
@@ -90,14 +92,14 @@ module _ (c : Call) where
 
   -- "and keeps 65 when it has a way"
   unfoldable pub Keeps65 : ℕ → Type 0
-  Keeps65 l = (w : List ℕ) × Way (c .table) (labNeeds l) w
+  Keeps65 l = (w : List ℕ) × Way (inForce c) (labNeeds l) w
 
   -- "refusal 65 names a LAB exactly when four things are true"
   pub record FourThings (l : ℕ) : Type 0 where
     pub to-51-hold : AllHold (checksTo51 c)
     pub lower-keep : (k : ℕ) → k < l → Keeps60to64 k × Keeps65 k
     pub keeps-to-64 : Keeps60to64 l
-    pub has-no-way : (w : List ℕ) → Way (c .table) (labNeeds l) w → ⊥
+    pub has-no-way : (w : List ℕ) → Way (inForce c) (labNeeds l) w → ⊥
 
   -- "8 bytes per LAB at 8 × LAB number, for two clk, two ena, two aclr, sclr, sload in need order": the byte of need i of LAB l
   unfoldable pub byteOf : ℕ → ℕ → ℕ
@@ -106,8 +108,8 @@ module _ (c : Call) where
   -- the route bytes of LAB l hold w, a way than which every other comes later
   pub record HoldsFirstWay (route : List ℕ) (l : ℕ) : Type 0 where
     pub w : List ℕ
-    pub is-way : Way (c .table) (labNeeds l) w
-    pub others-later : (v : List ℕ) → Way (c .table) (labNeeds l) v → (v ≡ w) ⊎ Earlier w v
+    pub is-way : Way (inForce c) (labNeeds l) w
+    pub others-later : (v : List ℕ) → Way (inForce c) (labNeeds l) v → (v ≡ w) ⊎ Earlier w v
     pub held : (i : ℕ) → i < length (labNeeds l) → getD route (byteOf l i) 0 ≡ getD w i 0
 
 -- DEMAND 3, both halves

@@ -1,5 +1,6 @@
 -- Document 01, "Verdict numbers, in the order of checking": the checks as a list, the verdict as its first broken check, and the route buffer.
--- `c` is the call; a definition that reads less of it takes what it reads: `e` the exercise, `a` the answer, `r` the route buffer's length.
+-- `c` is the call; a definition that reads less of it takes what it reads: `s` the settings, `e` the exercise, `a` the answer, `r` the route
+-- buffer's length.
 -- Assumes nothing.
 use Prim.Native.Nat.{ℕ, min}
 use mathlib.Core.Bool.{Bool, true, false, cond, not, _&&_}
@@ -13,6 +14,7 @@ use Rattle.exercise.specs.Exercise.{cellCount, exerciseChecks, recordStart}
 use Rattle.answer.specs.Answer.{apprentice, placeCount, answerChecks, wrongAnswerLength, placeStart}
 use Rattle.exercise.specs.declared.Record.{Record}
 use Rattle.exercise.specs.declared.Record.the-variants.{Combinational, Register, Malformed}
+use Rattle.settings.specs.Settings.{settingsChecks}
 use Rattle.lab_rules.specs.Rules.{labChecks, routeOf}
 use Rattle.tables.specs.Records.{cell, cellNumbers, malformed, doubleDriver}
 use Rattle.netlist.specs.Cells.{feeds, cellChecks}
@@ -24,7 +26,7 @@ use Rattle.judge.specs.declared.Fault.the-variants as fault
 use Rattle.judge.specs.declared.Finding.{Finding}
 use Rattle.judge.specs.declared.Part.{Part}
 use Rattle.judge.specs.declared.Verdict.{Verdict}
-use Rattle.judge.specs.Call.{Call}
+use Rattle.judge.specs.Call.{Call, inForce}
 use Rattle.judge.specs.Numbers.{namelessNumbers, faultOf}
 
 -- what a verdict says first: the number, the cell, the LAB, NONE ("65,535") "where there is none"
@@ -85,6 +87,10 @@ occupied c l = anyb (λ i. eqb (labAt (c .answer) i) l) (cellNumbers (c .exercis
 unfoldable pub roomChecks : ℕ → List Check
 roomChecks r = check 1 (not (eqb r 8192)) ∷ []
 
+-- 70 to 75: "all after 1 and before 10"
+unfoldable pub settingsGroup : List ℕ → List Check
+settingsGroup s = ofSheet (settingsChecks s)
+
 -- 10 to 14; 15 over all cells; 16 over all cells
 unfoldable pub exerciseGroup : List ℕ → List Check
 exerciseGroup e = ofSheet (exerciseChecks e) ++ (perCell 15 (malformed e) (cellNumbers e) ++ perCell 16 (doubleDriver e) (cellNumbers e))
@@ -107,15 +113,15 @@ placeGroup e a = perCell 50 (placeTaken e a) (cellNumbers e) ++ perCell 51 (carr
 
 -- 60 to 65: lowest LAB number, then lowest rule
 unfoldable pub labGroup : Call → List Check
-labGroup c = concatMap (λ l. ofLab l (labChecks (c .table) (labCells c l))) (below 1024)
+labGroup c = concatMap (λ l. ofLab l (labChecks (inForce c) (labCells c l))) (below 1024)
 
--- 10 to 51, of the two sheets
+-- 10 to 51, of exercise and answer
 unfoldable pub sheetChecks : List ℕ → List ℕ → List Check
 sheetChecks e a = exerciseGroup e ++ (answerGroup e a ++ (cellGroup e ++ placeGroup e a))
 
--- all the checks of numbers 1 to 51
+-- the "rules up to 51": "with 70 to 75 .. among" them
 unfoldable pub checksTo51 : Call → List Check
-checksTo51 c = roomChecks (c .room) ++ sheetChecks (c .exercise) (c .answer)
+checksTo51 c = roomChecks (c .room) ++ (settingsGroup (c .settings) ++ sheetChecks (c .exercise) (c .answer))
 
 -- ALL CHECKS, IN THE ORDER OF CHECKING
 unfoldable pub checks : Call → List Check
@@ -128,7 +134,7 @@ firstBroken (k ∷ ks) = let later = firstBroken ks in cond (k .broken) (k .find
 
 -- ---- the verdict
 
--- "the apprentice: 0 for numbers 1 to 23, otherwise the number on the answer sheet"
+-- "the apprentice: 0 for numbers 1 to 23, otherwise the number on the answer sheet"; M-102: 70 to 75 "with apprentice 0"
 unfoldable pub apprenticeOf : List ℕ → ℕ → ℕ
 apprenticeOf a n = cond (elemb n namelessNumbers) 0 (apprentice a)
 
@@ -148,7 +154,7 @@ lowestIn a n l = firstOr NONE (members a n l)
 
 -- "the culprit, a part of whichever of the two lent sheets is at fault"
 abbrev pub culpritAt : List ℕ → List ℕ → Finding → Fault → Part
--- "for 0 and 1 the empty part at the answer's end"
+-- "for 0 and 1 the empty part at the answer's end"; M-102: 70 to 75 with "the culprit of 1"
 culpritAt e a f fault.Call = ofAnswer (length a) 0
 -- "for 10 to 14 the first 9 bytes of the exercise (all of them if fewer)"
 culpritAt e a f fault.ExerciseHead = ofExercise 0 (min 9 (length e))
@@ -187,7 +193,7 @@ addressOf e a p = beginsAt (cond (p .«of_answer») a e) (p .start)
 
 -- "Route buffer when legal": eight bytes for each LAB, by number
 unfoldable pub routeBytes : Call → List ℕ
-routeBytes c = concatMap (λ l. routeOf (c .table) (labCells c l)) (below 1024)
+routeBytes c = concatMap (λ l. routeOf (inForce c) (labCells c l)) (below 1024)
 
 -- THE ROUTE BUFFER AT EXIT of a call that was lent `before`: on a refusal as it was, else the route bytes
 unfoldable pub routed : Call → List ℕ → List ℕ

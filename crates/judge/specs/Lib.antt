@@ -4,4 +4,5 @@ pub mod Judge
 pub mod Demands
 pub mod Culprit
 pub mod Ring
+pub mod AsBefore
 pub mod passes

@@ -1,4 +1,4 @@
--- What a verdict number means: the numbers of document 01 by where the fault lies, and those that name no apprentice. A list says which
+-- What a verdict number means: the numbers of document 01 and M-102 by where the fault lies, and those that name no apprentice. A list says which
 -- numbers there are, not the order of checking. Assumes nothing.
 use Prim.Native.Nat.{ℕ}
 use mathlib.Core.Bool.{cond}
@@ -10,6 +10,10 @@ use Rattle.judge.specs.declared.Fault.the-variants.{Call, ExerciseHead, 
 -- the route buffer
 abbrev pub callNumbers : List ℕ
 callNumbers = 1 ∷ []
+
+-- M-102, the settings sheet
+abbrev pub settingsNumbers : List ℕ
+settingsNumbers = 70 ∷ 71 ∷ 72 ∷ 73 ∷ 74 ∷ 75 ∷ []
 
 -- "10 to 14"
 abbrev pub exerciseHeadNumbers : List ℕ
@@ -31,19 +35,19 @@ placeNumbers = 26 ∷ 50 ∷ 51 ∷ []
 abbrev pub labNumbers : List ℕ
 labNumbers = 60 ∷ 61 ∷ 62 ∷ 63 ∷ 64 ∷ 65 ∷ []
 
--- "the judge's numbers 1 to 51"
+-- "the judge's numbers 1 to 51", with 70 to 75 among them
 abbrev pub numbersTo51 : List ℕ
-numbersTo51 = callNumbers ++ (exerciseHeadNumbers ++ (recordNumbers ++ (answerHeadNumbers ++ placeNumbers)))
+numbersTo51 = callNumbers ++ (settingsNumbers ++ (exerciseHeadNumbers ++ (recordNumbers ++ (answerHeadNumbers ++ placeNumbers))))
 
 -- every number but 0
 abbrev pub refusalNumbers : List ℕ
 refusalNumbers = numbersTo51 ++ labNumbers
 
--- "the apprentice: 0 for numbers 1 to 23"
+-- "the apprentice: 0 for numbers 1 to 23", and for 70 to 75
 abbrev pub namelessNumbers : List ℕ
-namelessNumbers = 1 ∷ 10 ∷ 11 ∷ 12 ∷ 13 ∷ 14 ∷ 15 ∷ 16 ∷ 20 ∷ 21 ∷ 22 ∷ 23 ∷ []
+namelessNumbers = 1 ∷ 10 ∷ 11 ∷ 12 ∷ 13 ∷ 14 ∷ 15 ∷ 16 ∷ 20 ∷ 21 ∷ 22 ∷ 23 ∷ 70 ∷ 71 ∷ 72 ∷ 73 ∷ 74 ∷ 75 ∷ []
 
--- where the fault of a number lies: for 0 and 1 in no sheet
+-- where the fault of a number lies: for 0, 1 and 70 to 75 in neither exercise nor answer
 unfoldable pub faultOf : ℕ → Fault
 faultOf n =
     cond (elemb n exerciseHeadNumbers) ExerciseHead

@@ -10,7 +10,7 @@ use Rattle.tables.specs.Records.{cell, cellNumbers}
 use Rattle.netlist.specs.Cells.{feeds}
 use Rattle.placing.specs.Places.{placeTaken}
 use Rattle.judge.specs.Call.{Call}
-use Rattle.judge.specs.Judge.{perCell, roomChecks, exerciseGroup, answerGroup, cellGroup, judged}
+use Rattle.judge.specs.Judge.{perCell, roomChecks, settingsGroup, exerciseGroup, answerGroup, cellGroup, judged}
 use Rattle.judge.specs.Demands.{AllHold}
 
 -- the cout of cell j is the cin of cell i
@@ -28,6 +28,7 @@ pub record Ring (e : List ℕ) (ring : ℕ → ℕ) (k : ℕ) : Type 0 where
 -- all that is checked before 51 holds
 pub record HoldsTo50 (c : Call) : Type 0 where
   pub room : AllHold (roomChecks (c .room))
+  pub settings : AllHold (settingsGroup (c .settings))
   pub exercise : AllHold (exerciseGroup (c .exercise))
   pub answer : AllHold (answerGroup (c .exercise) (c .answer))
   pub cells : AllHold (cellGroup (c .exercise))

@@ -1,4 +1,3 @@
-use route::EntryTable;
 use sheet::CellNumber;
 pub use sheet::NONE;
 ghost use mathlib.Core.Path.{_≡_};
@@ -12,9 +11,8 @@ ghost use Rattle.sheet.specs.Bytes.{beginsAt};
 ghost use Rattle.exercise.specs.Exercise.{recordStart};
 ghost use Rattle.exercise.specs.passes.Known.{knownAt};
 ghost use Rattle.answer.specs.Answer.{placeStart};
-ghost use Rattle.route.specs.Table.{houseBoard};
 ghost use Rattle.judge.specs.Call.{call};
-ghost use Rattle.judge.specs.Judge.{finding, legal, ofExercise, ofAnswer, roomChecks, exerciseGroup, answerGroup, cellGroup, placeGroup, sheetChecks, labGroup, checksTo51, firstBroken, apprenticeOf, lowestIn, culpritOf, verdictOf, judged, bytesOf, addressOf, routeBytes, routed, numbersOf};
+ghost use Rattle.judge.specs.Judge.{finding, legal, ofExercise, ofAnswer, roomChecks, settingsGroup, exerciseGroup, answerGroup, cellGroup, placeGroup, sheetChecks, labGroup, checksTo51, firstBroken, apprenticeOf, lowestIn, culpritOf, verdictOf, judged, bytesOf, addressOf, routeBytes, routed, numbersOf};
 ghost use Rattle.judge.specs.Numbers.{faultOf};
 ghost use Rattle.judge.specs.passes.Stages.{numbered, placedBy};
 ghost use Rattle.sheet.specs.Checks.{NONE};
@@ -23,7 +21,7 @@ ghost use Rattle.netlist.specs.passes.Numbers.{numberAt};
 // The route buffer's length: eight bytes for each of 1,024 LABs.
 pub const ROUTE_SIZE: usize = 8192;
 
-// Where the fault of a number lies: in the call (or there is none), or in that part of a sheet.
+// Where the fault of a number lies: in the call or its settings sheet (or there is none), or in that part of exercise or answer.
 pub enum Fault {
     Call,
     ExerciseHead,
@@ -49,7 +47,26 @@ const PLACE_NUMBERS: [u8; 3] = [26, 50, 51];
 const LAB_NUMBERS: [u8; 6] = [60, 61, 62, 63, 64, 65];
 
 // Those that name no apprentice.
-const NAMELESS_NUMBERS: [u8; 12] = [1, 10, 11, 12, 13, 14, 15, 16, 20, 21, 22, 23];
+const NAMELESS_NUMBERS: [u8; 18] = [
+    1,
+    10,
+    11,
+    12,
+    13,
+    14,
+    15,
+    16,
+    20,
+    21,
+    22,
+    23,
+    70,
+    71,
+    72,
+    73,
+    74,
+    75,
+];
 
 // What a stage finds: a number of document 01, or 0, with the cell and the LAB, or 65,535.
 pub struct Finding {
@@ -196,20 +213,31 @@ fn cells_finding(exercise: &[u8], answer: &[u8]) -> Finding
     place_finding(exercise, answer, cells, &drivers)
 }
 
-// 1 to 51.
-fn finding_to_51(exercise: &[u8], answer: &[u8], room: usize) -> Finding
-    ensures { λ r. ⌜ r ≡ firstBroken (roomChecks room ++ sheetChecks (now (exercise .entry)) (now (answer .entry))) ⌝ }
+// 1, and 70 to 75.
+fn call_finding(settings: &[u8], room: usize) -> Finding
+    ensures { λ r. ⌜ r ≡ firstBroken (roomChecks room ++ settingsGroup (now (settings .entry))) ⌝ }
 {
     if room != ROUTE_SIZE {
         return plain(1);
     }
-    let f = exercise_finding(exercise);
+    plain(settings::settings_number(settings))
+}
+
+// 1 to 51, with 70 to 75 after 1.
+fn finding_to_51(settings: &[u8], exercise: &[u8], answer: &[u8], room: usize) -> Finding
+    ensures { λ r. ⌜ r ≡ firstBroken (roomChecks room ++ (settingsGroup (now (settings .entry)) ++ sheetChecks (now (exercise .entry)) (now (answer .entry)))) ⌝ }
+{
+    let f = call_finding(settings, room);
     if f.number != 0 {
         return f;
     }
-    let g = answer_finding(exercise, answer);
+    let g = exercise_finding(exercise);
     if g.number != 0 {
         return g;
+    }
+    let h = answer_finding(exercise, answer);
+    if h.number != 0 {
+        return h;
     }
     cells_finding(exercise, answer)
 }
@@ -227,11 +255,12 @@ fn copy(rows: &[u8], route: &mut [u8])
 }
 
 // 60 to 65, of sheets that pass 1 to 51; where none is broken, the routes are written.
-fn judge_labs(table: EntryTable, exercise: &[u8], answer: &[u8], route: &mut [u8]) -> Finding
-    requires { ⌜ firstBroken (checksTo51 (call table (now exercise) (now answer) (length (now route)))) .number ≡ 0 ⌝ }
-    ensures found { λ r. ⌜ r ≡ firstBroken (labGroup (call table (now (exercise .entry)) (now (answer .entry)) (length (now (route .entry))))) ⌝ }
-    ensures written { λ r. ⌜ now (route .exit) ≡ cond (eqb (r .number) 0) (routeBytes (call table (now (exercise .entry)) (now (answer .entry)) (length (now (route .entry))))) (now (route .entry)) ⌝ }
+fn judge_labs(settings: &[u8], exercise: &[u8], answer: &[u8], route: &mut [u8]) -> Finding
+    requires { ⌜ firstBroken (checksTo51 (call (now settings) (now exercise) (now answer) (length (now route)))) .number ≡ 0 ⌝ }
+    ensures found { λ r. ⌜ r ≡ firstBroken (labGroup (call (now (settings .entry)) (now (exercise .entry)) (now (answer .entry)) (length (now (route .entry))))) ⌝ }
+    ensures written { λ r. ⌜ now (route .exit) ≡ cond (eqb (r .number) 0) (routeBytes (call (now (settings .entry)) (now (exercise .entry)) (now (answer .entry)) (length (now (route .entry))))) (now (route .entry)) ⌝ }
 {
+    let table = settings::entry_table(settings);
     let cells = exercise::cell_count(exercise);
     let mut first = [NONE; 1024];
     let mut next = [NONE; 512];
@@ -263,7 +292,7 @@ fn is_among(number: u8, list: &[u8]) -> bool
     false
 }
 
-// The apprentice: 0 for 1 to 23, else the answer sheet's.
+// The apprentice: 0 for 1 to 23 and 70 to 75, else the answer sheet's.
 fn apprentice_for(answer: &[u8], number: u8) -> u32
     ensures { λ r. ⌜ r ≡ apprenticeOf (now (answer .entry)) number ⌝ }
 {
@@ -385,16 +414,16 @@ fn verdict_of(exercise: &[u8], answer: &[u8], f: Finding) -> Verdict
     }
 }
 
-// The verdict on two sheets on a board with this entry table; the routes are written where it is legal, and nothing is touched otherwise.
-pub fn judge_on(table: EntryTable, exercise: &[u8], answer: &[u8], route: &mut [u8]) -> Verdict
-    ensures verdict { λ r. ⌜ r ≡ judged (call table (now (exercise .entry)) (now (answer .entry)) (length (now (route .entry)))) ⌝ }
-    ensures routes { λ r. ⌜ now (route .exit) ≡ routed (call table (now (exercise .entry)) (now (answer .entry)) (length (now (route .entry)))) (now (route .entry)) ⌝ }
+// The verdict on exercise and answer on the board of a settings sheet; the routes are written where it is legal, and nothing is touched otherwise.
+pub fn judge_sheets(settings: &[u8], exercise: &[u8], answer: &[u8], route: &mut [u8]) -> Verdict
+    ensures verdict { λ r. ⌜ r ≡ judged (call (now (settings .entry)) (now (exercise .entry)) (now (answer .entry)) (length (now (route .entry)))) ⌝ }
+    ensures routes { λ r. ⌜ now (route .exit) ≡ routed (call (now (settings .entry)) (now (exercise .entry)) (now (answer .entry)) (length (now (route .entry)))) (now (route .entry)) ⌝ }
 {
-    let f = finding_to_51(exercise, answer, route.len());
+    let f = finding_to_51(settings, exercise, answer, route.len());
     if f.number != 0 {
         return verdict_of(exercise, answer, f);
     }
-    let g = judge_labs(table, exercise, answer, route);
+    let g = judge_labs(settings, exercise, answer, route);
     verdict_of(exercise, answer, g)
 }
 
@@ -423,19 +452,20 @@ fn wide16(n: u16) -> u32
     n as u32
 }
 
-// The judge on the board of document 01: hands back the culprit, and writes number, cell, LAB and apprentice.
+// The judge: hands back the culprit, and writes number, cell, LAB and apprentice.
 pub fn judge<'a>(
+    settings: &[u8],
     exercise: &'a [u8],
     answer: &'a [u8],
     route: &mut [u8],
     numbers: &mut [u32; 4],
 ) -> &'a [u8]
-    ensures bytes { λ r. ⌜ now r ≡ bytesOf (now (exercise .entry)) (now (answer .entry)) (judged (call houseBoard (now (exercise .entry)) (now (answer .entry)) (length (now (route .entry)))) .culprit) ⌝ }
-    ensures place { λ r. ⌜ r .ptr ≡ addressOf (exercise .entry .ptr) (answer .entry .ptr) (judged (call houseBoard (now (exercise .entry)) (now (answer .entry)) (length (now (route .entry)))) .culprit) ⌝ }
-    ensures routes { λ r. ⌜ now (route .exit) ≡ routed (call houseBoard (now (exercise .entry)) (now (answer .entry)) (length (now (route .entry)))) (now (route .entry)) ⌝ }
-    ensures told { λ r. ⌜ now (numbers .exit) ≡ numbersOf (judged (call houseBoard (now (exercise .entry)) (now (answer .entry)) (length (now (route .entry))))) ⌝ }
+    ensures bytes { λ r. ⌜ now r ≡ bytesOf (now (exercise .entry)) (now (answer .entry)) (judged (call (now (settings .entry)) (now (exercise .entry)) (now (answer .entry)) (length (now (route .entry)))) .culprit) ⌝ }
+    ensures place { λ r. ⌜ r .ptr ≡ addressOf (exercise .entry .ptr) (answer .entry .ptr) (judged (call (now (settings .entry)) (now (exercise .entry)) (now (answer .entry)) (length (now (route .entry)))) .culprit) ⌝ }
+    ensures routes { λ r. ⌜ now (route .exit) ≡ routed (call (now (settings .entry)) (now (exercise .entry)) (now (answer .entry)) (length (now (route .entry)))) (now (route .entry)) ⌝ }
+    ensures told { λ r. ⌜ now (numbers .exit) ≡ numbersOf (judged (call (now (settings .entry)) (now (exercise .entry)) (now (answer .entry)) (length (now (route .entry))))) ⌝ }
 {
-    let v = judge_on(route::house_board(), exercise, answer, route);
+    let v = judge_sheets(settings, exercise, answer, route);
     let number = wide8(v.number);
     let cell = wide16(v.cell);
     let lab = wide16(v.lab);

@@ -1,5 +1,5 @@
-// Judges one of the samples for each number of document 01, NN.lxe and NN.lxa for the number NN, and writes what the judge hands back:
-// number, cell, LAB, apprentice and the culprit's bytes.
+// Judges one of the samples for each number, NN.lxe and NN.lxa for the number NN, on the board of NN.lxt, where it is there, otherwise on that
+// of document 01, and writes what the judge hands back: number, cell, LAB, apprentice and the culprit's bytes.
 use libc::STDOUT_FILENO;
 ghost use Prim.Native.Nat.{_<_, _≤_};
 ghost use Rattle.io.specs.Counts.{Counts};
@@ -63,12 +63,12 @@ fn verdict(numbers: [u32; 4]) {
 }
 
 // A line with what the judge hands back.
-fn show<'a>(exercise: &'a [u8], answer: &'a [u8], room: usize)
+fn show<'a>(settings: &[u8], exercise: &'a [u8], answer: &'a [u8], room: usize)
     requires { ⌜ room ≤ 8192 ⌝ }
 {
     let mut route = [255u8; judge::ROUTE_SIZE];
     let mut numbers = [0u32; 4];
-    let culprit = judge::judge(exercise, answer, &mut route[..room], &mut numbers);
+    let culprit = judge::judge(settings, exercise, answer, &mut route[..room], &mut numbers);
     verdict(numbers);
     word(b" culprit");
     bytes(culprit);
@@ -86,12 +86,19 @@ fn run(case: u8)
     if n == 0 {
         return;
     }
-    show(&exercise[..n], &answer[..m], room_for(case));
+    let mut settings = [0u8; SHEET_ROOM];
+    let k = read_sheet(case, b't', &mut settings);
+    if k == 0 {
+        let house = settings::house_settings();
+        show(&house, &exercise[..n], &answer[..m], room_for(case));
+        return;
+    }
+    show(&settings[..k], &exercise[..n], &answer[..m], room_for(case));
 }
 
 fn main() {
     let mut case: u8 = 0;
-    while case < 66 {
+    while case < 76 {
         run(case);
         case += 1;
     }

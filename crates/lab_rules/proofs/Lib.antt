@@ -9,3 +9,4 @@ pub mod Fewer
 pub mod Settled
 pub mod Routes
 pub mod Order
+pub mod Served

@@ -16,7 +16,7 @@ use Rattle.lab_rules.specs.declared.LabResult.{LabResult}
 use Rattle.sheet.specs.Checks.{NONE}
 use Rattle.lab_pass.specs.Members.{members}
 use Rattle.judge.specs.declared.Finding.{Finding}
-use Rattle.judge.specs.Call.{Call}
+use Rattle.judge.specs.Call.{Call, inForce}
 use Rattle.judge.specs.Judge.{labCells, labGroup, checksTo51, checks, firstBroken, verdictOf, judged, routed}
 use Rattle.judge.specs.passes.Stages.{numberedAs, numberedLab}
 use Rattle.judge.specs.Demands.{AllHold}
@@ -26,10 +26,10 @@ use Rattle.judge.proofs.Numbers.{lab-numbered}
 use Rattle.judge.proofs.Held.{hold-number, lab-holds}
 use Rattle.judge.proofs.Refusal65.{lab-to}
 use Rattle.judge.proofs.RouteHeld.{row-part, route-eight, written}
-use Rattle.list_check.specs.declared.CellRecord.{CellRecord}
+use Rattle.exercise.specs.Record.{Cell}
 use Rattle.list_check.specs.ListCheck.{listVerdict}
 use Rattle.list_check.specs.Agreement.{ListOf, ListLaw}
-use Rattle.judge.proofs.Kept.{all-kept}
+use Rattle.judge.proofs.Kept.{all-kept, settings-passed}
 use Rattle.list_check.proofs.Crowd.{member-is, few-members}
 use Rattle.list_check.proofs.AnyList.{same-verdict}
 use Rattle.list_check.proofs.Sheets.{Whole, Keeping, list-of-sheet, passes-18}
@@ -43,11 +43,14 @@ named-number g l low v =
     (λ q. let none : NONE ≡ l = rw q at v in absurd (omega arith))
 
 -- ---- the list of LAB l's records, where 1 to 51 hold
-module _ (c : Call) (l : ℕ) (cs : List CellRecord) (low : l < 1024) (held : AllHold (checksTo51 c)) (copied : ListOf c l cs) where
+module _ (c : Call) (l : ℕ) (cs : List Cell) (low : l < 1024) (held : AllHold (checksTo51 c)) (copied : ListOf c l cs) where
   abbrev t : Table
-  t = c .table
+  t = inForce c
 
-  lab-result : listVerdict t cs ≡ labResult t (labCells c l)
+  abbrev s : List ℕ
+  s = c .settings
+
+  lab-result : listVerdict s cs ≡ labResult t (labCells c l)
   unfolding ListOf labCells
   lab-result =
       let kept = all-kept c held in
@@ -56,11 +59,11 @@ module _ (c : Call) (l : ℕ) (cs : List CellRecord) (low : l < 1024) (held : Al
       let whole : Whole e is = λ i m. kept .whole i (member-is e (c .answer) l i m .0) in
       let keeps : Keeping e is = λ i m. kept .keeps i (member-is e (c .answer) l i m .0) in
       let by-number = copied .0 in
-      same-verdict cs by-number (copied .1) t
-      ∙ list-of-sheet t e is by-number (kept .few) whole (copied .2)
-      (passes-18 e is by-number (kept .few) whole keeps (few-members e (c .answer) kept l) (copied .2))
+      same-verdict cs by-number (copied .1) s
+      ∙ list-of-sheet s e is by-number (kept .few) whole (copied .2)
+      (passes-18 e is by-number (kept .few) whole keeps (few-members e (c .answer) kept l) (copied .2)) (settings-passed c held)
 
-  list-number : listVerdict t cs .number ≡ labNumber t (labCells c l)
+  list-number : listVerdict s cs .number ≡ labNumber t (labCells c l)
   unfolding labResult
   list-number = ap (λ (r : LabResult). r .number) lab-result
 
@@ -69,27 +72,27 @@ module _ (c : Call) (l : ℕ) (cs : List CellRecord) (low : l < 1024) (held : Al
   unfolding checks
   of-labs = skip-held (checksTo51 c) (labGroup c) held
 
-  named : judged c .lab ≡ l → judged c .number ≡ listVerdict t cs .number
+  named : judged c .lab ≡ l → judged c .number ≡ listVerdict s cs .number
   unfolding judged verdictOf
   named p = rw (of-labs, labs-finds, list-number) (named-number (λ j. labNumber t (labCells c j)) l low (rw (of-labs, labs-finds) at p))
 
-  names : (listVerdict t cs .number ≡ 0 → ⊥) → ((k : ℕ) → k < l → labResult t (labCells c k) .number ≡ 0) → judged c .lab ≡ l
+  names : (listVerdict s cs .number ≡ 0 → ⊥) → ((k : ℕ) → k < l → labResult t (labCells c k) .number ≡ 0) → judged c .lab ≡ l
   unfolding judged verdictOf labGroup labResult labNumber
   names broken lower =
       rw of-labs
       (ap (λ (f : Finding). f .lab)
-      (lab-to (λ j. labChecks t (labCells c j)) (λ j. lab-numbered t (labCells c j)) 1024 l (listVerdict t cs .number) broken low lower (sym list-number)))
+      (lab-to (λ j. labChecks t (labCells c j)) (λ j. lab-numbered t (labCells c j)) 1024 l (listVerdict s cs .number) broken low lower (sym list-number)))
 
   -- the rules of the LAB hold, so they give no number
   no-number : judged c .number ≡ 0 → labNumber t (labCells c l) ≡ 0
   unfolding AllHold labNumber
   no-number z = hold-number l (labChecks t (labCells c l)) (lab-holds c z l low)
 
-  legal : (before : List ℕ) → judged c .number ≡ 0 → (listVerdict t cs .number ≡ 0) × (partAt (routed c before) (8 * l) 8 ≡ listVerdict t cs .bytes)
+  legal : (before : List ℕ) → judged c .number ≡ 0 → (listVerdict s cs .number ≡ 0) × (partAt (routed c before) (8 * l) 8 ≡ listVerdict s cs .bytes)
   unfolding labResult routeOf
   legal before z =
       let n = no-number z in
-      let bytes : listVerdict t cs .bytes ≡ routeOf t (labCells c l) = ap (λ (r : LabResult). r .bytes) lab-result ∙ rw n in (
+      let bytes : listVerdict s cs .bytes ≡ routeOf t (labCells c l) = ap (λ (r : LabResult). r .bytes) lab-result ∙ rw n in (
         list-number ∙ n,
         rw (written c before z, bytes)
             (row-part (λ j. routeOf t (labCells c j)) (λ j. route-eight (needs (labCells c j)) (earliestWay t (needs (labCells c j)))) 1024 l low),

@@ -3,4 +3,3 @@ pub mod Sheets
 pub mod Agrees
 pub mod Taken
 pub mod AnyList
-pub mod Walk

@@ -23,10 +23,10 @@ use Rattle.distinct.proofs.Rising.{In}
 use Rattle.tables.specs.Records.{cell}
 use Rattle.netlist.specs.Cells.{checksOf, cellChecks}
 use Rattle.tables.proofs.Decoded.{good-net}
-use Rattle.route.specs.Table.{Table}
+use Rattle.settings.specs.Settings.{settingsNumber, tableOf}
 use Rattle.lab_rules.specs.Rules.{labResult}
-use Rattle.list_check.specs.declared.CellRecord.{CellRecord}
-use Rattle.list_check.specs.ListCheck.{bytesOf, recordFrom, unfit, noList, listVerdict}
+use Rattle.exercise.specs.Record.{Cell, recordBytes}
+use Rattle.list_check.specs.ListCheck.{recordFrom, unfit, noList, listVerdict}
 use Rattle.list_check.specs.Agreement.{Copies}
 use Rattle.list_check.proofs.Taken.{list-is-lab}
 
@@ -112,7 +112,7 @@ module _ (n : ℕ) (few : n ≤ 1024) where
       (λ r. rw (l, k, r))))
 
 -- a record with the bytes of cell i says what cell i says
-pub record-of-sheet : (e : List ℕ) (i : ℕ) (c : CellRecord) → netCount e ≤ 1024 → bytesOf c ≡ recordPart e i → isMalformed (cell e i) ≡ false → recordFrom c ≡ cell e i
+pub record-of-sheet : (e : List ℕ) (i : ℕ) (c : Cell) → netCount e ≤ 1024 → recordBytes c ≡ recordPart e i → isMalformed (cell e i) ≡ false → recordFrom c ≡ cell e i
 unfolding recordFrom cell recordAt
 record-of-sheet e i c few same m = rw same (decoded-same (netCount e) few (recordPart e i) m)
 
@@ -124,7 +124,7 @@ Whole e is = (i : ℕ) → In i is → isMalformed (cell e i) ≡ false
 abbrev pub Keeping : List ℕ → List ℕ → Type 0
 Keeping e is = (i : ℕ) → In i is → firstNumber (cellChecks e i) ≡ 0
 
-pub records-of-sheet : (e is : List ℕ) (cs : List CellRecord) → netCount e ≤ 1024 → Whole e is → Copies e is cs → map recordFrom cs ≡ map (cell e) is
+pub records-of-sheet : (e is : List ℕ) (cs : List Cell) → netCount e ≤ 1024 → Whole e is → Copies e is cs → map recordFrom cs ≡ map (cell e) is
 unfolding Copies
 records-of-sheet e [] [] few whole h = refl
 records-of-sheet e [] (c ∷ cs) few whole h = absurd h
@@ -133,8 +133,9 @@ records-of-sheet e (i ∷ is) (c ∷ cs) few whole h =
     rw (record-of-sheet e i c few (h .0) (whole i (inl refl)), records-of-sheet e is cs few (λ j m. whole j (inr m)) (h .1))
 
 -- the list of a LAB's records of a sheet, where it passes 18, has the result of that LAB
-pub list-of-sheet : (t : Table) (e is : List ℕ) (cs : List CellRecord) → netCount e ≤ 1024 → Whole e is → Copies e is cs → noList cs ≡ false → listVerdict t cs ≡ labResult t (map (cell e) is)
-list-of-sheet t e is cs few whole h passes = list-is-lab t (map (cell e) is) cs (records-of-sheet e is cs few whole h) passes
+pub list-of-sheet : (s e is : List ℕ) (cs : List Cell) → netCount e ≤ 1024 → Whole e is → Copies e is cs → noList cs ≡ false → settingsNumber s ≡ 0
+    → listVerdict s cs ≡ labResult (tableOf s) (map (cell e) is)
+list-of-sheet s e is cs few whole h passes = list-is-lab s (map (cell e) is) cs (records-of-sheet e is cs few whole h) passes
 
 -- ---- 18
 fit-of-kind : (e : List ℕ) (i : ℕ) (c : Record) → isMalformed c ≡ false → firstNumber (checksOf e i c) ≡ 0 → unfit c ≡ false
@@ -153,7 +154,7 @@ none-unfit e [] h = refl
 none-unfit e (i ∷ is) h = rw (h i (inl refl)) (none-unfit e is (λ j m. h j (inr m)))
 
 -- the list of at most 32 whole cells that keep 30 to 44 passes 18
-pub passes-18 : (e is : List ℕ) (cs : List CellRecord) → netCount e ≤ 1024 → Whole e is → Keeping e is → length is ≤ 32 → Copies e is cs → noList cs ≡ false
+pub passes-18 : (e is : List ℕ) (cs : List Cell) → netCount e ≤ 1024 → Whole e is → Keeping e is → length is ≤ 32 → Copies e is cs → noList cs ≡ false
 unfolding noList
 passes-18 e is cs few whole keeps short h =
     let same = records-of-sheet e is cs few whole h in

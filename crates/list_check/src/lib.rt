@@ -1,19 +1,12 @@
+use exercise::Cell;
 use exercise::Record;
 use lab_rules::Counts;
 use lab_rules::LabResult;
 ghost use mathlib.Core.Path.{_≡_};
-ghost use Rattle.route.specs.Table.{houseBoard};
+ghost use Rattle.exercise.specs.Record.{recordBytes};
 ghost use Rattle.lab_rules.specs.passes.Counts.{refused};
-ghost use Rattle.list_check.specs.ListCheck.{bytesOf, recordFrom, unfit, listVerdict};
+ghost use Rattle.list_check.specs.ListCheck.{recordFrom, unfit, listVerdict};
 ghost use Rattle.list_check.specs.passes.State.{noState, stateWith, finished};
-
-// The fields of a cell's record: kind, flag, eleven signals.
-#[repr(C)]
-pub struct CellRecord {
-    pub kind: u8,
-    pub flag: u8,
-    pub signals: [u16; 11],
-}
 
 // What is kept of a list's records: whether all were fit, what the LAB's rules count, and one mark a net.
 pub struct ListState {
@@ -23,40 +16,39 @@ pub struct ListState {
 }
 
 // The 24 bytes of a record.
-fn bytes_of(cell: CellRecord) -> [u8; 24]
-    ensures { λ r. ⌜ r ≡ bytesOf cell ⌝ }
+fn bytes_of(cell: Cell) -> [u8; 24]
+    ensures { λ r. ⌜ r ≡ recordBytes cell ⌝ }
 {
-    let s = cell.signals;
     [
-        cell.kind,
-        cell.flag,
-        sheet::low_byte(s[0]),
-        sheet::high_byte(s[0]),
-        sheet::low_byte(s[1]),
-        sheet::high_byte(s[1]),
-        sheet::low_byte(s[2]),
-        sheet::high_byte(s[2]),
-        sheet::low_byte(s[3]),
-        sheet::high_byte(s[3]),
-        sheet::low_byte(s[4]),
-        sheet::high_byte(s[4]),
-        sheet::low_byte(s[5]),
-        sheet::high_byte(s[5]),
-        sheet::low_byte(s[6]),
-        sheet::high_byte(s[6]),
-        sheet::low_byte(s[7]),
-        sheet::high_byte(s[7]),
-        sheet::low_byte(s[8]),
-        sheet::high_byte(s[8]),
-        sheet::low_byte(s[9]),
-        sheet::high_byte(s[9]),
-        sheet::low_byte(s[10]),
-        sheet::high_byte(s[10]),
+        sheet::low_byte(cell[0]),
+        sheet::high_byte(cell[0]),
+        sheet::low_byte(cell[1]),
+        sheet::high_byte(cell[1]),
+        sheet::low_byte(cell[2]),
+        sheet::high_byte(cell[2]),
+        sheet::low_byte(cell[3]),
+        sheet::high_byte(cell[3]),
+        sheet::low_byte(cell[4]),
+        sheet::high_byte(cell[4]),
+        sheet::low_byte(cell[5]),
+        sheet::high_byte(cell[5]),
+        sheet::low_byte(cell[6]),
+        sheet::high_byte(cell[6]),
+        sheet::low_byte(cell[7]),
+        sheet::high_byte(cell[7]),
+        sheet::low_byte(cell[8]),
+        sheet::high_byte(cell[8]),
+        sheet::low_byte(cell[9]),
+        sheet::high_byte(cell[9]),
+        sheet::low_byte(cell[10]),
+        sheet::high_byte(cell[10]),
+        sheet::low_byte(cell[11]),
+        sheet::high_byte(cell[11]),
     ]
 }
 
 // What a record says, at 1,024 nets.
-fn record_from(cell: CellRecord) -> Record
+fn record_from(cell: Cell) -> Record
     ensures { λ r. ⌜ r ≡ recordFrom cell ⌝ }
 {
     let bytes = bytes_of(cell);
@@ -86,7 +78,7 @@ fn start() -> ListState
 }
 
 // One record more.
-fn take_cell(state: ListState, cell: CellRecord) -> ListState
+fn take_cell(state: ListState, cell: Cell) -> ListState
     ensures { λ r. ⌜ r ≡ stateWith state cell ⌝ }
 {
     let decoded = record_from(cell);
@@ -97,39 +89,43 @@ fn take_cell(state: ListState, cell: CellRecord) -> ListState
     ListState { fit, counts, marks }
 }
 
-// 18, with eight 255s.
-fn refusal() -> LabResult
-    ensures { λ r. ⌜ r ≡ refused 18 ⌝ }
+// A number with eight 255s.
+fn refusal(number: u8) -> LabResult
+    ensures { λ r. ⌜ r ≡ refused number ⌝ }
 {
     LabResult {
-        number: 18,
+        number,
         bytes: [255u8; 8],
     }
 }
 
-// After the last record: 18 where one was unfit, otherwise the result of a LAB of the house board.
-fn finish(state: ListState) -> LabResult
-    ensures { λ r. ⌜ r ≡ finished houseBoard state ⌝ }
+// After the last record: 18 where one was unfit, 70 to 75 of the settings sheet, otherwise the result of a LAB of its board.
+fn finish(settings: &[u8], state: ListState) -> LabResult
+    ensures { λ r. ⌜ r ≡ finished (now (settings .entry)) state ⌝ }
 {
-    if state.fit {
-        let marks = state.marks;
-        return lab_rules::lab_result(
-            route::house_board(),
-            state.counts,
-            distinct::count_read(&marks),
-        );
+    if !state.fit {
+        return refusal(18);
     }
-    refusal()
+    let number = settings::settings_number(settings);
+    if number != 0 {
+        return refusal(number);
+    }
+    let marks = state.marks;
+    lab_rules::lab_result(
+        settings::entry_table(settings),
+        state.counts,
+        distinct::count_read(&marks),
+    )
 }
 
-// The check of one LAB on a lent list of its cell records: 18 for over 32 of them or an unfit one, else the lowest broken of 60 to 65,
-// or 0 with the LAB's eight route bytes.
-pub fn check_list(cells: &[CellRecord]) -> LabResult
-    ensures { λ r. ⌜ r ≡ listVerdict houseBoard (now (cells .entry)) ⌝ }
+// The check of one LAB on a lent list of its cells, on the board of a settings sheet: 18 for over 32 of them or an unfit one, else 70 to 75 of the
+// sheet, else the lowest broken of 60 to 65, or 0 with the LAB's eight route bytes.
+pub fn check_list(settings: &[u8], cells: &[Cell]) -> LabResult
+    ensures { λ r. ⌜ r ≡ listVerdict (now (settings .entry)) (now (cells .entry)) ⌝ }
 {
     let n = cells.len();
     if 32 < n {
-        return refusal();
+        return refusal(18);
     }
     let mut state = start();
     let mut i: usize = 0;
@@ -137,5 +133,5 @@ pub fn check_list(cells: &[CellRecord]) -> LabResult
         state = take_cell(state, cells[i]);
         i += 1;
     }
-    finish(state)
+    finish(settings, state)
 }

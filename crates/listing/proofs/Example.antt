@@ -3,7 +3,7 @@ use Prim.Native.Nat.{ℕ, _+_, _*_}
 use mathlib.Core.Path.{_≡_, refl}
 use mathlib.Core.List.{List, [], _∷_, _++_}
 use Rattle.sheet.specs.Lists.{concatMap}
-use Rattle.judge.specs.Judge.{carryNotNext, labCells, occupied, roomChecks, exerciseGroup, answerGroup, cellGroup, placeGroup, labGroup, sheetChecks, checksTo51, checks, apprenticeOf, verdictOf, judged}
+use Rattle.judge.specs.Judge.{carryNotNext, labCells, occupied, roomChecks, settingsGroup, exerciseGroup, answerGroup, cellGroup, placeGroup, labGroup, sheetChecks, checksTo51, checks, apprenticeOf, verdictOf, judged}
 use Rattle.lab_rules.specs.Ports.{counted, clockPair, pairInUse, needed, inLab}
 use Rattle.lab_nets.specs.NetsIn.{inputs, netsIn}
 use Rattle.lab_rules.specs.Rules.{tooManyClocks, tooManyPairs, tooManyClears, tooManySynchronous, tooManyNets, needs, noWay, routeOf}
@@ -13,7 +13,8 @@ use Rattle.netlist.specs.Cells.{feeds, carryInNotFed, carryOutNotReadOnce, cell
 use Rattle.placing.specs.Places.{labAt, outOfRangeAt, samePlace, placeTaken}
 use Rattle.route.specs.Way.{isWay, entryLists, ways, earliestWay}
 use Rattle.route.specs.Route.{eightBytes, labRouteOf}
-use Rattle.route.specs.Table.{houseBoard}
+use Rattle.settings.specs.Settings.{wrongSettingsLength, otherFlags, tableOf}
+use Rattle.settings.specs.House.{houseSettings}
 use Rattle.answer.specs.Answer.{wrongAnswerLength, placedOf, placedAt}
 use Rattle.sheet.specs.Header.{wrongMark, wrongVersion}
 use Rattle.exercise.specs.Exercise.{overLimit, wrongExerciseLength}
@@ -40,13 +41,13 @@ exercise =
 abbrev answer : List ℕ
 answer = ascii "LXA" ++ concatMap small (1 ∷ 7 ∷ 0 ∷ 2 ∷ []) ++ 2 ∷ 1 ∷ 0 ∷ 0 ∷ [] ++ 2 ∷ 1 ∷ 0 ∷ 0 ∷ []
 
-pub listing-example : listing exercise answer
+pub listing-example : listing houseSettings exercise answer
     ≡ ascii "verdict 0 cell - lab - apprentice 7\n"
     ++ ascii "lab 34 clk 0 - ena - - aclr 1 - sclr - sload -\n"
-unfolding carryNotNext labCells occupied roomChecks exerciseGroup answerGroup cellGroup placeGroup labGroup sheetChecks checksTo51 checks apprenticeOf
+unfolding carryNotNext labCells occupied roomChecks settingsGroup exerciseGroup answerGroup cellGroup placeGroup labGroup sheetChecks checksTo51 checks apprenticeOf
     verdictOf judged counted clockPair pairInUse needed inLab inputs netsIn tooManyClocks tooManyPairs tooManyClears tooManySynchronous
     tooManyNets needs noWay routeOf members cell malformed driven doubleDriver feeds carryInNotFed carryOutNotReadOnce cellChecks labAt
-    outOfRangeAt samePlace placeTaken earliestWay ways entryLists isWay eightBytes labRouteOf houseBoard wrongAnswerLength placedOf placedAt
+    outOfRangeAt samePlace placeTaken earliestWay ways entryLists isWay eightBytes labRouteOf houseSettings wrongSettingsLength otherFlags tableOf wrongAnswerLength placedOf placedAt
     wrongMark wrongVersion overLimit wrongExerciseLength badCombinational badRegister badTail keepsCombinational keepsRegister recordOf
     recordAt outputs digits decimal orDash verdictLine labLine labLines listing
 listing-example = refl

@@ -18,7 +18,7 @@ use Rattle.sheet.proofs.Laws.{by-test}
 use Rattle.route.specs.Way.{earliestWay}
 use Rattle.lab_rules.specs.Rules.{needs, routeOf}
 use Rattle.placing.specs.Places.{labAt}
-use Rattle.judge.specs.Call.{Call}
+use Rattle.judge.specs.Call.{Call, inForce}
 use Rattle.judge.specs.Judge.{labCells, occupied, judged, routed}
 use Rattle.judge.proofs.RouteHeld.{row-at, route-eight, written}
 use Rattle.listing.specs.passes.Writes.{Writes}
@@ -106,14 +106,14 @@ module _ (c : Call) (before : List ℕ) (legal : judged c .number ≡ 0) where
   route = routed c before
 
   abbrev bytes : ℕ → List ℕ
-  bytes l = routeOf (c .table) (labCells c l)
+  bytes l = routeOf (inForce c) (labCells c l)
 
   -- byte j of LAB l in the route buffer
   byte-of : (l j : ℕ) → l < 1024 → j < 8 → byteAt route (8 * l + j) ≡ getD (bytes l) j 0
   unfolding routeOf
   byte-of l j h s =
       rw (written c before legal)
-      (row-at bytes (λ i. route-eight (needs (labCells c i)) (earliestWay (c .table) (needs (labCells c i)))) 1024 l j h s)
+      (row-at bytes (λ i. route-eight (needs (labCells c i)) (earliestWay (inForce c) (needs (labCells c i)))) 1024 l j h s)
 
   line-same : (l : ℕ) → l < 1024 → labLine l (rowAt route l) ≡ labLine l (bytes l)
   unfolding labLine rowAt

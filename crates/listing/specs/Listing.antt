@@ -1,16 +1,15 @@
 -- Document 01, "A listing in full": "One verdict line, then for a legal answer one line for each occupied LAB, rising. Each line ends in a
--- newline." `c` is the call, `e` the exercise, `a` the answer. Assumes nothing.
+-- newline." `c` is the call, `s` the settings, `e` the exercise, `a` the answer. Assumes nothing.
 use Prim.Native.Nat.{ℕ}
 use mathlib.Core.Bool.{cond}
 use mathlib.Core.List.{List, [], _++_}
 use lib.Dec.{eqb}
 use lib.ListN.{getD}
 use Rattle.sheet.specs.Lists.{concatMap, filterb, below}
-use Rattle.route.specs.Table.{houseBoard}
 use Rattle.lab_rules.specs.Rules.{routeOf}
 use Rattle.sheet.specs.Checks.{NONE}
 use Rattle.judge.specs.declared.Verdict.{Verdict}
-use Rattle.judge.specs.Call.{Call, call}
+use Rattle.judge.specs.Call.{Call, call, inForce}
 use Rattle.judge.specs.Judge.{labCells, occupied, judged}
 use Rattle.listing.specs.Text.{ascii, decimal}
 
@@ -48,15 +47,15 @@ labLine l b =
 
 -- "one line for each occupied LAB, rising"
 unfoldable pub labLines : Call → List ℕ
-labLines c = concatMap (λ l. labLine l (routeOf (c .table) (labCells c l))) (filterb (occupied c) (below 1024))
+labLines c = concatMap (λ l. labLine l (routeOf (inForce c) (labCells c l))) (filterb (occupied c) (below 1024))
 
--- the judge's call for a listing: on the board of document 01, with a route buffer of the right length
-abbrev pub listingCall : List ℕ → List ℕ → Call
-listingCall e a = call houseBoard e a 8192
+-- the judge's call for a listing: with a route buffer of the right length
+abbrev pub listingCall : List ℕ → List ℕ → List ℕ → Call
+listingCall s e a = call s e a 8192
 
 -- THE LISTING: "One verdict line, then for a legal answer one line for each occupied LAB, rising"
-unfoldable pub listing : List ℕ → List ℕ → List ℕ
-listing e a =
-    let c = listingCall e a in
+unfoldable pub listing : List ℕ → List ℕ → List ℕ → List ℕ
+listing s e a =
+    let c = listingCall s e a in
     let v = judged c in
     verdictLine v ++ cond (eqb (v .number) 0) (labLines c) []

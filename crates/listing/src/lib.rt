@@ -181,14 +181,15 @@ fn mark_labs(answer: &[u8], cells: u16, marks: &mut [u8])
     }
 }
 
-// Writes the listing of two sheets into a buffer and answers its length. What the buffer has no room for is dropped.
-pub fn listing(exercise: &[u8], answer: &[u8], out: &mut [u8]) -> usize
-    ensures written { λ _. ⌜ now (out .exit) ≡ overwrite (now (out .entry)) 0 (listing (now (exercise .entry)) (now (answer .entry))) ⌝ }
-    ensures counted { λ r. ⌜ r ≡ length (listing (now (exercise .entry)) (now (answer .entry))) ⌝ }
+// Writes the listing of an exercise and an answer on the board of a settings sheet into a buffer and answers its length. What the buffer has no
+// room for is dropped.
+pub fn listing(settings: &[u8], exercise: &[u8], answer: &[u8], out: &mut [u8]) -> usize
+    ensures written { λ _. ⌜ now (out .exit) ≡ overwrite (now (out .entry)) 0 (listing (now (settings .entry)) (now (exercise .entry)) (now (answer .entry))) ⌝ }
+    ensures counted { λ r. ⌜ r ≡ length (listing (now (settings .entry)) (now (exercise .entry)) (now (answer .entry))) ⌝ }
     ensures short { λ r. ⌜ r ≤ MOST ⌝ }
 {
     let mut route = [NO_ENTRY; judge::ROUTE_SIZE];
-    let verdict = judge::judge_on(route::house_board(), exercise, answer, &mut route);
+    let verdict = judge::judge_sheets(settings, exercise, answer, &mut route);
     let next = verdict_line(out, 0, verdict);
     if verdict.number != 0 {
         return next;

@@ -1,6 +1,6 @@
 -- The earliest of all ways is a way that comes before every other, and it is what the search finds. The lists of entries stand in the order of
 -- ways, and every way is among them. Assumes nothing.
-use Prim.Native.Nat.{ℕ, zero, suc, _<_}
+use Prim.Native.Nat.{ℕ, zero, suc, _+_, _<_, _≤_}
 use mathlib.Core.Path.{_≡_, refl, sym, ap, _∙_}
 use mathlib.Core.Logic.{_⊎_, inl, inr, ⊎-elim, _↔_}
 use mathlib.Core.Bool.{Bool, true, false, cond, not, _&&_, true≢false}
@@ -8,13 +8,13 @@ use mathlib.Core.List.{List, [], _∷_, _++_, map}
 use mathlib.Core.Option.{Option, none, some}
 use native.Mathlib.Nat.{zero-add, not-suc-le-zero, le-of-suc-le-suc}
 use native.Mathlib.Omega.{arith}
-use lib.ListN.{length, getD}
+use lib.ListN.{length, getD, replicate, List·getD-eq-default}
 use lib.Dec.{eqb}
 use borrow.Author.Tests.{eqb-false, ne-eqb, not-true}
 use Rattle.sheet.specs.Lists.{concatMap, filterb, from, elemb}
 use Rattle.sheet.proofs.Laws.{by-test, and-parts, or-parts}
 use Rattle.route.specs.declared.Need.{Need}
-use Rattle.route.specs.Table.{Table, serves, needAt}
+use Rattle.route.specs.Table.{Table, ENTRIES, serves, noRow, eightRows, needAt}
 use Rattle.route.specs.Way.{Way, Earlier, isWay, entryLists, ways, firstOf, earliestWay}
 use Rattle.route.specs.passes.Search.{attempt, pick, foundWay}
 use Rattle.route.proofs.Search.{First, Begun, first-none, first-some, first-found, first-same, pick-first}
@@ -153,6 +153,44 @@ module _ (t : Table) (ns : List Need) where
 
   pub earliest-found : (w : List ℕ) → Way t ns w → (v : List ℕ) × (earliestWay t ns ≡ some v)
   earliest-found w p = first-found (Way t ns) (earliestWay t ns) earliest-first w p
+
+-- ---- a way reads only what an entry serves
+abbrev pub SameServed : Table → Table → Type 0
+SameServed t u = (e r : ℕ) → serves t e r ≡ serves u e r
+
+way-served : (t u : Table) → SameServed t u → (ns : List Need) (w : List ℕ) → Way t ns w → Way u ns w
+way-served t u same ns w h = record {
+  as-long = h .as-long;
+  serving = λ i m. sym (same (getD w i 0) (needAt ns i .role)) ∙ h .serving i m;
+  its-own = h .its-own;
+}
+
+-- 65: SAME ENTRIES SERVED, SAME WAYS
+pub same-earliest : (t u : Table) → SameServed t u → (ns : List Need) → earliestWay t ns ≡ earliestWay u ns
+same-earliest t u same ns =
+    one-first (Way u ns) (earliestWay t ns) (earliestWay u ns)
+    (first-same (Way t ns) (Way u ns) (way-served t u same ns) (way-served u t (λ e r. sym (same e r)) ns) (earliestWay t ns) (earliest-first t ns))
+    (earliest-first u ns)
+
+-- rows that serve nothing change no way
+blank : (k r : ℕ) → getD (replicate k false) r false ≡ false
+blank zero r = refl
+blank (suc k) zero = refl
+blank (suc k) (suc r) = blank k r
+
+padded : (t : Table) (e r : ℕ) → getD (getD t e noRow) r false ≡ serves t e r
+padded [] e r = blank 5 r
+padded (x ∷ t) zero r = refl
+padded (x ∷ t) (suc e) r = padded t e r
+
+rows-from : (t : Table) (i k e r : ℕ) → length t ≤ i + k → getD (getD (map (λ j. getD t j noRow) (from i k)) e []) r false ≡ serves t (i + e) r
+rows-from t i zero e r h = let none : length t ≤ i + e = omega arith in rw (List·getD-eq-default t [] none)
+rows-from t i (suc k) zero r h = let same : i + 0 ≡ i = omega arith in rw same (padded t i r)
+rows-from t i (suc k) (suc e) r h = let same : i + suc e ≡ suc i + e = omega arith in rw same (rows-from t (suc i) k e r (omega arith))
+
+pub rows-serve : (t : Table) → length t ≤ ENTRIES → SameServed (eightRows t) t
+unfolding eightRows
+rows-serve t h e r = let same : 0 + e ≡ e = omega arith in rw same at (rows-from t 0 ENTRIES e r h)
 
 pub no-needs : (t : Table) → earliestWay t [] ≡ some []
 unfolding earliestWay ways entryLists isWay

@@ -3,7 +3,7 @@ ghost use mathlib.Core.Path.{_≡_};
 ghost use mathlib.Core.Bool.{true, false};
 ghost use Prim.Native.Nat.{_+_, _≤_, _<_};
 ghost use lib.Seq.{slice};
-ghost use Rattle.route.specs.Table.{ENTRIES, houseBoard, needList, noNeeds, withNeed};
+ghost use Rattle.route.specs.Table.{ENTRIES, needList, noNeeds, withNeed};
 ghost use Rattle.route.specs.Way.{earliestWay};
 ghost use Rattle.route.specs.passes.Search.{searchFrom, mayHave, takenBy};
 ghost use Rattle.route.specs.Route.{byteFor, eightBytes, labRouteOf};
@@ -33,28 +33,11 @@ pub struct LabRoute {
     pub bytes: [u8; 8],
 }
 
-// How many control entries each LAB of a board has.
-pub const ENTRIES: usize = 6;
+// How many control entries a LAB has at most.
+pub const ENTRIES: usize = 8;
 
-// For each entry, whether it serves clk, ena, aclr, sclr, sload.
+// For each entry, whether it serves clk, ena, aclr, sclr, sload. A board with fewer entries has rows that serve nothing.
 pub type EntryTable = [[bool; 5]; ENTRIES];
-
-// The board of document 01.
-pub const HOUSE_BOARD: EntryTable = [
-    [true, false, false, false, false],
-    [true, false, true, false, false],
-    [true, true, false, false, false],
-    [false, true, false, false, true],
-    [false, false, true, true, false],
-    [false, false, false, true, true],
-];
-
-// The board of document 01.
-pub fn house_board() -> EntryTable
-    ensures { λ r. ⌜ r ≡ houseBoard ⌝ }
-{
-    HOUSE_BOARD
-}
 
 impl Needs {
     pub fn none() -> Self

@@ -1,4 +1,4 @@
--- What the two laws of both writers share: lists read number by number, a sheet put together again from its parts, and
+-- What the two laws of every writer share: lists read number by number, a sheet put together again from its parts, and
 -- the laws themselves from what is proved of a format. Assumes nothing.
 use Prim.Native.Nat.{ℕ, zero, suc, _+_, _*_, _/_, _%_, _≤_, _<_}
 use mathlib.Core.Path.{_≡_, refl, sym, ap, _∙_}
@@ -71,17 +71,19 @@ two-again s k b e =
     let h : u16At s k / 256 ≡ byteAt s (k + 1) = omega arith in
     rw (l, h, e)
 
--- and so are the mark and the version
-pub mark-again : (third : ℕ) (s : List ℕ) {xs ys : List ℕ} → wrongMark third s ≡ false → wrongVersion s ≡ false → xs ≡ ys
-    → 76 ∷ 88 ∷ third ∷ 1 ∷ 0 ∷ xs ≡ byteAt s 0 ∷ byteAt s 1 ∷ byteAt s 2 ∷ byteAt s 3 ∷ byteAt s 4 ∷ ys
-unfolding wrongMark wrongVersion
-mark-again third s m v e =
+-- a version that is not wrong is 1
+pub version-1 : (s : List ℕ) → wrongVersion s ≡ false → u16At s 3 ≡ 1
+unfolding wrongVersion
+version-1 s v = eqb-true (u16At s 3) 1 (not-false _ v)
+
+-- the mark and the version are those that they say, too
+pub mark-again : (third version : ℕ) (s : List ℕ) {xs ys : List ℕ} → AllBytes s → wrongMark third s ≡ false → u16At s 3 ≡ version → xs ≡ ys
+    → 76 ∷ 88 ∷ third ∷ u16Bytes version ++ xs ≡ byteAt s 0 ∷ byteAt s 1 ∷ byteAt s 2 ∷ byteAt s 3 ∷ byteAt s 4 ∷ ys
+unfolding wrongMark
+mark-again third version s b m v e =
     let (lx, z) = and-parts (eqb (byteAt s 0) 76 && eqb (byteAt s 1) 88) (eqb (byteAt s 2) third) (not-false _ m) in
     let (l, x) = and-parts (eqb (byteAt s 0) 76) (eqb (byteAt s 1) 88) lx in
-    let one = eqb-true (u16At s 3) 1 (not-false _ v) in
-    let e3 : byteAt s 3 ≡ 1 = omega arith in
-    let e4 : byteAt s 4 ≡ 0 = omega arith in
-    rw (eqb-true (byteAt s 0) 76 l, eqb-true (byteAt s 1) 88 x, eqb-true (byteAt s 2) third z, e3, e4, e)
+    rw (eqb-true (byteAt s 0) 76 l, eqb-true (byteAt s 1) 88 x, eqb-true (byteAt s 2) third z, ← v, two-again s 3 b e)
 
 -- ---- a sheet of a head and n parts, each the bytes of what it says
 module _ (h w : ℕ) (bytes : List ℕ → List ℕ) (s : List ℕ) (g : ℕ → List ℕ) where

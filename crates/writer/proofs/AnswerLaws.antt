@@ -25,7 +25,7 @@ use Rattle.writer.specs.Answers.{answerWriterChecks, answerRefusal, Answ
 use Rattle.writer.specs.Laws.{AllBytes, TwoLaws, answerFormat, BesideExercise}
 use Rattle.writer.proofs.Sheets.{answer-length, answer-part, apprentice-back, places-back}
 use Rattle.writer.proofs.Again.{every-at, table-length, table-is, bytes-front, bytes-whole}
-use Rattle.writer.proofs.Again.{two-again, mark-again, sheet-again, two-laws}
+use Rattle.writer.proofs.Again.{two-again, version-1, mark-again, sheet-again, two-laws}
 
 -- ---- a place
 -- what place i of a sheet says
@@ -110,7 +110,7 @@ module _ (a : List ℕ) (b : AllBytes a) where
       let b6 = b 6 in
       let low : apprentice a % 65536 ≡ u16At a 5 = omega arith in
       let high : apprentice a / 65536 ≡ u16At a 7 = omega arith in
-      rw (low, high) (mark-again 65 a mark version (two-again a 5 b (two-again a 7 b (two-again a 9 b refl))) ∙ bytes-front a 11 long)
+      rw (low, high) (mark-again 65 1 a b mark (version-1 a version) (two-again a 5 b (two-again a 7 b (two-again a 9 b refl))) ∙ bytes-front a 11 long)
 
   part-again : anyb (outOfRangeAt a) (below (placeCount a)) ≡ false → (i : ℕ) → i < placeCount a → placeBytes (said a i) ≡ placePart a i
   part-again placed i l =

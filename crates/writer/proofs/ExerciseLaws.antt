@@ -14,16 +14,16 @@ use Rattle.sheet.proofs.Scan.{none-at}
 use Rattle.sheet.proofs.Checks.{none-broken, all-held}
 use Rattle.sheet.proofs.Laws.{by-test}
 use Rattle.exercise.specs.Exercise.{netCount, cellCount, recordStart, recordPart, overLimit, wrongExerciseLength, exerciseChecks, exerciseNumber}
-use Rattle.exercise.specs.Record.{breaksLayout, recordFields, recordAt, recordValues}
+use Rattle.exercise.specs.Record.{recordBytes, breaksLayout, recordFields, recordAt, recordValues}
 use Rattle.exercise.proofs.Head.{headed}
 use Rattle.exercise.proofs.Numbers.{record-number, record-values}
 use Rattle.tables.specs.Records.{cell, cellNumbers, malformed}
-use Rattle.writer.specs.Exercises.{Netlist, exerciseHead, recordBytes, exerciseSheet, packed, netlistOf}
+use Rattle.writer.specs.Exercises.{Netlist, exerciseHead, exerciseSheet, packed, netlistOf}
 use Rattle.writer.specs.Exercises.{recordChecks, recordsNumber, exerciseWriterChecks, exerciseRefusal, ExercisePasses, TwelveEach}
 use Rattle.writer.specs.Laws.{AllBytes, TwoLaws, exerciseFormat}
 use Rattle.writer.proofs.Sheets.{exercise-length, exercise-part, nets-back, cells-back}
 use Rattle.writer.proofs.Again.{every-at, table-length, table-is, bytes-front, bytes-whole}
-use Rattle.writer.proofs.Again.{joined, part-bytes, two-again, mark-again, sheet-again, two-laws}
+use Rattle.writer.proofs.Again.{joined, part-bytes, two-again, version-1, mark-again, sheet-again, two-laws}
 
 -- ---- a record
 -- what cell i of a sheet says
@@ -91,7 +91,7 @@ module _ (x : Netlist) where
 module _ (e : List ℕ) (b : AllBytes e) where
   head-again : wrongMark 69 e ≡ false → wrongVersion e ≡ false → 9 ≤ length e → exerciseHead (netCount e) (cellCount e) ≡ take 9 e
   unfolding exerciseHead
-  head-again mark version long = mark-again 69 e mark version (two-again e 5 b (two-again e 7 b refl)) ∙ bytes-front e 9 long
+  head-again mark version long = mark-again 69 1 e b mark (version-1 e version) (two-again e 5 b (two-again e 7 b refl)) ∙ bytes-front e 9 long
 
   part-again : anyb (malformed e) (cellNumbers e) ≡ false → length e ≡ recordStart (cellCount e)
       → (i : ℕ) → i < cellCount e → recordBytes (said e i) ≡ recordPart e i

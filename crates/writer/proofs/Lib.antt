@@ -3,6 +3,8 @@ pub mod Putting
 pub mod Rooms
 pub mod Judged
 pub mod Outcome
+pub mod BoardChecks
 pub mod Again
 pub mod ExerciseLaws
 pub mod AnswerLaws
+pub mod SettingsLaws

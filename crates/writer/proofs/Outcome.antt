@@ -36,7 +36,7 @@ module _ (r n : ℕ) (sheet lent : List ℕ) (is : r ≡ n) where
       → (_≡_ {A = Written} (record { number = 0; length = size }) (told n sheet)) × (to ≡ bufferAfter n sheet lent)
   accepted to size h e room s = (rw (← is, h, e), rw (← is, h) (s ∙ front-stored lent sheet (rw e room)))
 
--- ---- the first two checks of both writers: 2, and 13 for the records
+-- ---- the first two checks of an exercise and of an answer: 2, and 13 for the records
 module _ (room needs total : ℕ) (short : Bool) (is : short ≡ ltb room needs) (later : ℕ) where
   abbrev first-two : ℕ
   first-two = cond (ltb room needs) 2 (cond (ltb 512 total) 13 later)

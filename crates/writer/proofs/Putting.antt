@@ -1,4 +1,4 @@
--- How bytes are stored one after the other, and how a loop stores parts of one length each. Assumes nothing.
+-- How bytes are stored one after the other, how a loop stores parts of one length each, and the pieces of a settings sheet's head. Assumes nothing.
 use Prim.Native.Nat.{ℕ, suc, _+_, _*_, _≤_, _<_}
 use mathlib.Core.Path.{_≡_, refl, ap, _∙_, sym}
 use mathlib.Core.List.{List, [], _∷_, _++_, append-nil}
@@ -6,10 +6,13 @@ use native.Mathlib.Nat.{zero-add}
 use native.Mathlib.Numerals.{add-one}
 use native.Mathlib.Omega.{arith}
 use lib.ListN.{length, getD, set, take, drop}
+use borrow.Author.Tests.{eq-eqb, ne-eqb}
 use lib.Seq.{lt-length-set, take-suc, take-all, length-take-le, take-append-seam, sets, length-sets, sets-eq}
 use Rattle.sheet.specs.Lists.{concatMap}
+use Rattle.sheet.specs.Bytes.{u16Bytes}
 use Rattle.sheet.proofs.Lists.{sets-append, concat-append}
-use Rattle.writer.specs.passes.Put.{cutBytes}
+use Rattle.writer.specs.Boards.{settingsHead}
+use Rattle.writer.specs.passes.Put.{cutBytes, markBytes}
 use Rattle.writer.proofs.Sheets.{parts-length}
 
 -- ---- bytes in a row
@@ -80,3 +83,23 @@ module _ {A : Type 0} (f : A → List ℕ) (xs : List A) (lent : List ℕ) (at :
 pub cut-size : (p : List ℕ) → length (cutBytes p) ≡ 4
 unfolding cutBytes
 cut-size p = refl
+
+-- parts of one byte each, joined, are the bytes
+pub bytes-joined : (l : List ℕ) → concatMap (λ b. b ∷ []) l ≡ l
+bytes-joined [] = refl
+bytes-joined (b ∷ l) = ap (_∷_ b) (bytes-joined l)
+
+-- ---- the head of a settings sheet
+-- mark and version, then the count
+abbrev pub counted : ℕ → ℕ → List ℕ
+counted version total = markBytes 84 version ++ total ∷ []
+
+-- the board's number follows in version 2 alone
+module _ (version number total : ℕ) where
+  pub head-numbered : version ≡ 2 → counted version total ++ u16Bytes number ≡ settingsHead version number total
+  unfolding settingsHead markBytes
+  head-numbered h = rw (eq-eqb version 2 h)
+
+  pub head-plain : (version ≡ 2 → ⊥) → counted version total ≡ settingsHead version number total
+  unfolding settingsHead markBytes
+  head-plain h = rw (ne-eqb version 2 h)

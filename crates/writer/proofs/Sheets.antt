@@ -1,16 +1,21 @@
--- A sheet is a head and parts of one length each: how long it is, where its parts stand, and the counts in its head. Assumes nothing.
+-- A sheet is a head and parts of one length each: how long it is, where its parts stand, and the numbers in its head. Assumes nothing.
 use Prim.Native.Nat.{ℕ, zero, suc, _+_, _*_, _<_}
 use mathlib.Core.Path.{_≡_, refl, ap, _∙_, sym}
 use mathlib.Core.List.{List, [], _∷_, _++_}
 use native.Mathlib.Nat.{mul-zero, mul-suc, add-comm, le-of-suc-le-suc, not-suc-le-zero}
 use native.Mathlib.Omega.{arith}
 use lib.ListN.{length, getD, take, drop, length-append}
-use lib.Seq.{take-at, drop-append-add}
+use lib.Seq.{take-at, take-length, drop-at, drop-append-add}
+use lib.Dec.{eqb}
 use Rattle.sheet.specs.Lists.{concatMap}
+use Rattle.sheet.proofs.Laws.{by-test}
 use Rattle.exercise.specs.Exercise.{netCount, cellCount, recordStart, recordPart}
 use Rattle.answer.specs.Answer.{apprentice, placeCount, placeStart, placePart}
-use Rattle.writer.specs.Exercises.{Netlist, exerciseHead, recordBytes, exerciseSheet}
+use Rattle.settings.specs.Settings.{version, entryCount, headOf, flags}
+use Rattle.exercise.specs.Record.{recordBytes}
+use Rattle.writer.specs.Exercises.{Netlist, exerciseHead, exerciseSheet}
 use Rattle.writer.specs.Answers.{Placement, answerHead, placeBytes, answerSheet}
+use Rattle.writer.specs.Boards.{Board, settingsHead, settingsSheet}
 
 -- ---- parts of w bytes each
 module _ {A : Type 0} (w : ℕ) (f : A → List ℕ) (each : (x : A) → length (f x) ≡ w) where
@@ -93,3 +98,33 @@ module _ (x : Placement) where
   pub places-back : placeCount (answerSheet x) ≡ m
   unfolding answerSheet answerHead
   places-back = omega arith
+
+-- ---- the settings sheet
+pub settings-head-size : (version number total : ℕ) → length (settingsHead version number total) ≡ headOf version
+unfolding settingsHead
+settings-head-size version number total = by-test (eqb version 2) (λ t. rw t) (λ t. rw t)
+
+module _ (x : Board) where
+  abbrev e : ℕ
+  e = length (x .entries)
+
+  pub settings-length : length (settingsSheet x) ≡ headOf (x .version) + e
+  unfolding settingsSheet
+  settings-length =
+      length-append (settingsHead (x .version) (x .number) e) (x .entries)
+      ∙ ap (λ (k : ℕ). k + e) (settings-head-size (x .version) (x .number) e)
+
+  pub version-back : version (settingsSheet x) ≡ x .version
+  unfolding settingsSheet settingsHead
+  version-back = omega arith
+
+  pub count-back : entryCount (settingsSheet x) ≡ e
+  unfolding settingsSheet settingsHead
+  count-back = refl
+
+  pub flags-back : flags (settingsSheet x) ≡ x .entries
+  unfolding settingsSheet
+  flags-back =
+      let head = settingsHead (x .version) (x .number) e in
+      let size = settings-head-size (x .version) (x .number) e in
+      rw (version-back, count-back, drop-at head (x .entries) (headOf (x .version)) size) (take-length (x .entries))

@@ -2,31 +2,26 @@
 use Prim.Native.Nat.{ℕ, _+_, _*_}
 use mathlib.Core.Path.{_≡_}
 use mathlib.Core.List.{List, [], _∷_, _++_, map}
-use lib.ListN.{length, getD}
+use lib.ListN.{length}
 use lib.Dec.{ltb}
-use Rattle.sheet.specs.Lists.{concatMap, anyb, below, Every}
-use Rattle.sheet.specs.Bytes.{lowByte, highByte, u16Bytes}
+use Rattle.sheet.specs.Lists.{concatMap, anyb, Every}
+use Rattle.sheet.specs.Bytes.{lowByte, highByte}
 use Rattle.sheet.specs.Checks.{Check, check, firstNumber}
 use Rattle.exercise.specs.Exercise.{netCount, recordStart, exerciseNumber}
-use Rattle.exercise.specs.Record.{recordValues}
+use Rattle.exercise.specs.Record.{Cell, recordBytes, recordValues}
 use Rattle.tables.specs.Records.{cell, cellNumbers, malformed, doubleDriver}
 
--- what an exercise sheet says: how many nets, and each cell as twelve 16-bit numbers: kind and flag, which are the low and the high byte of the
--- first, and eleven signals
+-- what an exercise sheet says: how many nets, and each cell as twelve numbers
 pub record Netlist : Type 0 where
   pub nets : ℕ
-  pub cells : List (List ℕ)
+  pub cells : List Cell
 
-abbrev pub netlist : ℕ → List (List ℕ) → Netlist
+abbrev pub netlist : ℕ → List Cell → Netlist
 netlist nets cells = record { nets = nets; cells = cells }
 
 -- "`LXE`, version 1 (16 bits), net count (16), cell count (16)"
 unfoldable pub exerciseHead : ℕ → ℕ → List ℕ
 exerciseHead nets total = 76 ∷ 88 ∷ 69 ∷ 1 ∷ 0 ∷ lowByte nets ∷ highByte nets ∷ lowByte total ∷ highByte total ∷ []
-
--- "24 bytes a cell: kind, flag, eleven signals", "Numbers are little-endian"
-unfoldable pub recordBytes : List ℕ → List ℕ
-recordBytes c = concatMap (λ j. u16Bytes (getD c j 0)) (below 12)
 
 -- the sheet that says it
 unfoldable pub exerciseSheet : Netlist → List ℕ

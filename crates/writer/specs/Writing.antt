@@ -1,4 +1,4 @@
--- Request M-100, "Write the sheets as well": what both writers answer, and what they leave in the lent buffer. Assumes nothing.
+-- Request M-100, "Write the sheets as well": what every writer answers, and what it leaves in the lent buffer. Assumes nothing.
 use Prim.Native.Nat.{ℕ}
 use mathlib.Core.Bool.{cond}
 use mathlib.Core.List.{List, _++_}

@@ -5,7 +5,9 @@ use answer::MAX_LE;
 use answer::MAX_ROW;
 use answer::PLACE_SIZE;
 use answer::PLACES_AT;
+use exercise::CELL_NUMBERS;
 use exercise::CELLS_AT;
+use exercise::Cell;
 use exercise::EXERCISE_HEADER;
 use exercise::MAX_CELLS;
 use exercise::MAX_NETS;
@@ -23,14 +25,12 @@ ghost use Rattle.sheet.specs.Bytes.{u16Bytes, u32Bytes};
 ghost use Rattle.exercise.specs.Exercise.{netCount, recordStart};
 ghost use Rattle.answer.specs.Answer.{placeStart};
 ghost use Rattle.writer.specs.Writing.{told, bufferAfter};
-ghost use Rattle.writer.specs.Exercises.{netlist, exerciseHead, recordBytes, exerciseSheet, recordsNumber, exerciseRefusal};
+ghost use Rattle.exercise.specs.Record.{recordBytes};
+ghost use Rattle.writer.specs.Exercises.{netlist, exerciseHead, exerciseSheet, recordsNumber, exerciseRefusal};
 ghost use Rattle.writer.specs.Answers.{placement, answerHead, answerSheet, answerRefusal};
+ghost use Rattle.settings.specs.Settings.{headOf};
+ghost use Rattle.writer.specs.Boards.{board, settingsHead, settingsSheet, wrongBoard, settingsRefusal};
 ghost use Rattle.writer.specs.passes.Put.{cutBytes, cutSheet, offBoard, markBytes};
-
-// A cell as twelve 16-bit numbers, in the order of its record: kind and flag, the low and the high byte of the first, then eleven signals.
-pub const CELL_NUMBERS: usize = 12;
-
-pub type Cell = [u16; CELL_NUMBERS];
 
 // A place as three numbers: x, y and LE.
 pub const PLACE_NUMBERS: usize = 3;
@@ -69,15 +69,15 @@ fn put_u32(to: &mut [u8], at: usize, n: u32)
     put_u16(to, at + 2, (n / 65536) as u16);
 }
 
-// Stores the mark with this third letter, and version 1.
-fn put_mark(to: &mut [u8], third: u8)
+// Stores the mark with this third letter, and a version.
+fn put_mark(to: &mut [u8], third: u8, version: u16)
     requires { ⌜ 5 ≤ length (now to) ⌝ }
-    ensures { λ _. ⌜ now (to .exit) ≡ sets (now (to .entry)) 0 (markBytes third) ⌝ }
+    ensures { λ _. ⌜ now (to .exit) ≡ sets (now (to .entry)) 0 (markBytes third version) ⌝ }
 {
     to[0] = b'L';
     to[1] = b'X';
     to[2] = third;
-    put_u16(to, VERSION_AT, 1);
+    put_u16(to, VERSION_AT, version);
 }
 
 // Stores a cell's record.
@@ -109,7 +109,7 @@ fn put_exercise_head(to: &mut [u8], nets: u16, total: u16)
     requires { ⌜ 9 ≤ length (now to) ⌝ }
     ensures { λ _. ⌜ now (to .exit) ≡ sets (now (to .entry)) 0 (exerciseHead nets total) ⌝ }
 {
-    put_mark(to, b'E');
+    put_mark(to, b'E', 1);
     put_u16(to, NETS_AT, nets);
     put_u16(to, CELLS_AT, total);
 }
@@ -221,7 +221,7 @@ fn put_answer_head(to: &mut [u8], apprentice: u32, total: u16)
     requires { ⌜ 11 ≤ length (now to) ⌝ }
     ensures { λ _. ⌜ now (to .exit) ≡ sets (now (to .entry)) 0 (answerHead apprentice total) ⌝ }
 {
-    put_mark(to, b'A');
+    put_mark(to, b'A', 1);
     put_u32(to, APPRENTICE_AT, apprentice);
     put_u16(to, PLACES_AT, total);
 }
@@ -291,5 +291,97 @@ pub fn write_answer(apprentice: u32, places: &[CellPlace], out: &mut [u8]) -> Wr
     Written {
         number: 0,
         length: ANSWER_HEADER + PLACE_SIZE * places.len(),
+    }
+}
+
+// Whether 72 refuses a version and a board's number.
+fn is_wrong_board(version: u16, number: u16) -> bool
+    ensures { λ r. ⌜ r ≡ wrongBoard version number ⌝ }
+{
+    let unknown = settings::is_unknown_version(version);
+    let first = version == 1;
+    let numbered = number != 0;
+    unknown | (first & numbered)
+}
+
+// The length of a settings sheet of this version and so many entries.
+fn settings_length(version: u16, total: usize) -> usize
+    requires { ⌜ total ≤ 8 ⌝ }
+    ensures { λ r. ⌜ r ≡ headOf version + total ⌝ }
+{
+    if version == 2 {
+        return settings::BOARD_HEADER as usize + total;
+    }
+    settings::HEADER as usize + total
+}
+
+// The number that refuses a settings sheet, or 0.
+fn settings_refusal(version: u16, number: u16, entries: &[u8], room: usize) -> u8
+    ensures { λ r. ⌜ r ≡ settingsRefusal (board version number (now (entries .entry))) room ⌝ }
+{
+    if is_wrong_board(version, number) {
+        return 72;
+    }
+    if (settings::MAX_ENTRIES as usize) < entries.len() {
+        return 73;
+    }
+    if settings::has_other_flags(entries) {
+        return 75;
+    }
+    if room < settings_length(version, entries.len()) {
+        return 2;
+    }
+    0
+}
+
+// Stores the head of a settings sheet.
+fn put_settings_head(to: &mut [u8], version: u16, number: u16, total: u8)
+    requires { ⌜ headOf version ≤ length (now to) ⌝ }
+    ensures { λ _. ⌜ now (to .exit) ≡ sets (now (to .entry)) 0 (settingsHead version number total) ⌝ }
+{
+    put_mark(to, b'T', version);
+    to[settings::COUNT_AT] = total;
+    if version == 2 {
+        put_u16(to, settings::BOARD_AT, number);
+    }
+}
+
+// Stores the flags of all entries.
+fn put_entries(to: &mut [u8], at: usize, entries: &[u8])
+    requires { ⌜ at + length (now entries) ≤ length (now to) ⌝ }
+    ensures { λ _. ⌜ now (to .exit) ≡ sets (now (to .entry)) at (now (entries .entry)) ⌝ }
+{
+    let mut i: usize = 0;
+    while i < entries.len() {
+        to[at + i] = entries[i];
+        i += 1;
+    }
+}
+
+// Stores a settings sheet.
+fn put_settings(to: &mut [u8], version: u16, number: u16, entries: &[u8])
+    requires { ⌜ (headOf version + length (now entries) ≤ length (now to)) × (length (now entries) ≤ 8) ⌝ }
+    ensures { λ _. ⌜ now (to .exit) ≡ sets (now (to .entry)) 0 (settingsSheet (board version number (now (entries .entry)))) ⌝ }
+{
+    put_settings_head(to, version, number, entries.len() as u8);
+    put_entries(to, settings_length(version, 0), entries);
+}
+
+// Writes the settings sheet of a board's version, number and entries.
+pub fn write_settings(version: u16, number: u16, entries: &[u8], out: &mut [u8]) -> Written
+    ensures told { λ r. ⌜ r ≡ told (settingsRefusal (board version number (now (entries .entry))) (length (now (out .entry)))) (settingsSheet (board version number (now (entries .entry)))) ⌝ }
+    ensures written { λ _. ⌜ now (out .exit) ≡ bufferAfter (settingsRefusal (board version number (now (entries .entry))) (length (now (out .entry)))) (settingsSheet (board version number (now (entries .entry)))) (now (out .entry)) ⌝ }
+{
+    let refusal = settings_refusal(version, number, entries, out.len());
+    if refusal != 0 {
+        return Written {
+            number: refusal,
+            length: 0,
+        };
+    }
+    put_settings(out, version, number, entries);
+    Written {
+        number: 0,
+        length: settings_length(version, entries.len()),
     }
 }

@@ -10,7 +10,7 @@ pub finding-to-51-spec : {M : Type 1} → statement M
 finding-to-51-spec =
     tie.close
     (tie.spec
-    (λ c κs. search needs)  -- plain-requires
+    (λ c κs. search needs)  -- call-finding-requires
     (λ c. search to-51-steps depth 20)  -- returns
     (λ c κs. search needs)  -- exercise-finding-requires
     (λ c. search to-51-steps depth 20)  -- returns-2

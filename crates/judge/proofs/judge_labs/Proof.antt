@@ -14,8 +14,8 @@ returns c =
     let p = c .before .before in
     let l = p .before .before .before .before .before .before in
     let m = l .before .before .before in
-    let k = m .before .before .before .before in
-    labs-stop (call (k .args .table) (now (k .args .exercise)) (now (k .args .answer)) (length (now (k .args .route)))) (k .pre) _ _ _ (m .cell-count .ensures)
+    let k = m .before .before .before .before .before .before in
+    labs-stop (call (now (k .args .settings)) (now (k .args .exercise)) (now (k .args .answer)) (length (now (k .args .route)))) (k .pre) _ (m .before .entry-table .ensures) _ _ _ (m .cell-count .ensures)
     (l .link-cells .ensures .0) (l .link-cells .ensures .1) _ (p .route-labs .ensures .0) _ (now (k .args .route)) (omega (arith, c .if1 .taken)) refl
 
 copy-requires : tie.Need-copy-requires
@@ -23,9 +23,9 @@ copy-requires c κs =
     let p = c .before .before .before .before in
     let l = p .before .before .before .before .before .before in
     let m = l .before .before .before in
-    let k = m .before .before .before .before in
+    let k = m .before .before .before .before .before .before in
     sym (rows-size _ _ _ _ (p .route-labs .ensures .1))
-    ∙ sym (whole-room (call (k .args .table) (now (k .args .exercise)) (now (k .args .answer)) (length (now (k .args .route)))) (k .pre))
+    ∙ sym (whole-room (call (now (k .args .settings)) (now (k .args .exercise)) (now (k .args .answer)) (length (now (k .args .route)))) (k .pre))
 
 returns-2 : tie.Need-returns-2
 returns-2 c =
@@ -34,8 +34,8 @@ returns-2 c =
     let p = i .before .before in
     let l = p .before .before .before .before .before .before in
     let m = l .before .before .before in
-    let k = m .before .before .before .before in
-    labs-go (call (k .args .table) (now (k .args .exercise)) (now (k .args .answer)) (length (now (k .args .route)))) (k .pre) _ _ _ (m .cell-count .ensures)
+    let k = m .before .before .before .before .before .before in
+    labs-go (call (now (k .args .settings)) (now (k .args .exercise)) (now (k .args .answer)) (length (now (k .args .route)))) (k .pre) _ (m .before .entry-table .ensures) _ _ _ (m .cell-count .ensures)
     (l .link-cells .ensures .0) (l .link-cells .ensures .1) _ (p .route-labs .ensures .0) _ (now (k .args .route)) _ _ (omega (arith, i .if1 .left))
     (c .plain .ensures) (p .route-labs .ensures .1) (o .copy .ensures)
 
@@ -43,6 +43,7 @@ pub judge-labs-spec : {M : Type 1} → statement M
 judge-labs-spec =
     tie.close
     (tie.spec
+    (λ c κs. search needs)  -- entry-table-requires
     (λ c κs. search needs)  -- cell-count-requires
     (λ c. search needs)  -- slice-aggregate-link-cells
     (λ c. search needs)  -- slice-aggregate-link-cells-2

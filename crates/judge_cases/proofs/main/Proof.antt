@@ -8,7 +8,7 @@ abbrev Inv-loop : tie.InvT-loop
 Inv-loop case₀ case = Unit {0}
 
 abbrev μ-loop : tie.MeasureT-loop
-μ-loop case₀ case = 66 - case
+μ-loop case₀ case = 76 - case
 
 pub main-spec : {M : Type 1} → statement M
 main-spec =

@@ -1,10 +1,9 @@
--- `list_check::bytes_of` meets its contract: each byte is the one that `bytesOf` names.
--- Assumes nothing.
+-- Each byte is the low or the high one of its number.
 use Prim.Native.Nat.{ℕ}
 use mathlib.Core.Path.{_≡_, refl}
 use mathlib.Core.List.{List, _∷_}
 use borrow.Author.Needs.{needs}
-use Rattle.list_check.specs.ListCheck.{bytesOf}
+use Rattle.exercise.specs.Record.{recordBytes}
 use Rattle.list_check.proofs.bytes_of.Statement.{statement}
 use Rattle.list_check.proofs.bytes_of.Tie as tie
 
@@ -12,7 +11,7 @@ cons : {x y : ℕ} {xs ys : List ℕ} → x ≡ y → xs ≡ ys → (x ∷ xs) �
 cons p q = rw (p, q)
 
 pub bytes-of-spec : {M : Type 1} → statement M
-unfolding bytesOf
+unfolding recordBytes
 bytes-of-spec =
     tie.close
     (tie.spec
@@ -60,4 +59,8 @@ bytes-of-spec =
     (λ c κs. search needs)  -- low-byte-requires-11
     (λ c. search needs)  -- array-read-high-byte-11
     (λ c κs. search needs)  -- high-byte-requires-11
-    (λ c. cons refl (cons refl (cons (c .before .before .before .before .before .before .before .before .before .before .before .before .before .before .before .before .before .before .before .before .before .low-byte .ensures) (cons (c .before .before .before .before .before .before .before .before .before .before .before .before .before .before .before .before .before .before .before .before .high-byte .ensures) (cons (c .before .before .before .before .before .before .before .before .before .before .before .before .before .before .before .before .before .before .before .low-byte2 .ensures) (cons (c .before .before .before .before .before .before .before .before .before .before .before .before .before .before .before .before .before .before .high-byte2 .ensures) (cons (c .before .before .before .before .before .before .before .before .before .before .before .before .before .before .before .before .before .low-byte3 .ensures) (cons (c .before .before .before .before .before .before .before .before .before .before .before .before .before .before .before .before .high-byte3 .ensures) (cons (c .before .before .before .before .before .before .before .before .before .before .before .before .before .before .before .low-byte4 .ensures) (cons (c .before .before .before .before .before .before .before .before .before .before .before .before .before .before .high-byte4 .ensures) (cons (c .before .before .before .before .before .before .before .before .before .before .before .before .before .low-byte5 .ensures) (cons (c .before .before .before .before .before .before .before .before .before .before .before .before .high-byte5 .ensures) (cons (c .before .before .before .before .before .before .before .before .before .before .before .low-byte6 .ensures) (cons (c .before .before .before .before .before .before .before .before .before .before .high-byte6 .ensures) (cons (c .before .before .before .before .before .before .before .before .before .low-byte7 .ensures) (cons (c .before .before .before .before .before .before .before .before .high-byte7 .ensures) (cons (c .before .before .before .before .before .before .before .low-byte8 .ensures) (cons (c .before .before .before .before .before .before .high-byte8 .ensures) (cons (c .before .before .before .before .before .low-byte9 .ensures) (cons (c .before .before .before .before .high-byte9 .ensures) (cons (c .before .before .before .low-byte10 .ensures) (cons (c .before .before .high-byte10 .ensures) (cons (c .before .low-byte11 .ensures) (cons (c .high-byte11 .ensures) refl)))))))))))))))))))))))))  -- returns
+    (λ c. search needs)  -- array-read-low-byte-12
+    (λ c κs. search needs)  -- low-byte-requires-12
+    (λ c. search needs)  -- array-read-high-byte-12
+    (λ c κs. search needs)  -- high-byte-requires-12
+    (λ c. cons (c .before .before .before .before .before .before .before .before .before .before .before .before .before .before .before .before .before .before .before .before .before .before .before .low-byte .ensures) (cons (c .before .before .before .before .before .before .before .before .before .before .before .before .before .before .before .before .before .before .before .before .before .before .high-byte .ensures) (cons (c .before .before .before .before .before .before .before .before .before .before .before .before .before .before .before .before .before .before .before .before .before .low-byte2 .ensures) (cons (c .before .before .before .before .before .before .before .before .before .before .before .before .before .before .before .before .before .before .before .before .high-byte2 .ensures) (cons (c .before .before .before .before .before .before .before .before .before .before .before .before .before .before .before .before .before .before .before .low-byte3 .ensures) (cons (c .before .before .before .before .before .before .before .before .before .before .before .before .before .before .before .before .before .before .high-byte3 .ensures) (cons (c .before .before .before .before .before .before .before .before .before .before .before .before .before .before .before .before .before .low-byte4 .ensures) (cons (c .before .before .before .before .before .before .before .before .before .before .before .before .before .before .before .before .high-byte4 .ensures) (cons (c .before .before .before .before .before .before .before .before .before .before .before .before .before .before .before .low-byte5 .ensures) (cons (c .before .before .before .before .before .before .before .before .before .before .before .before .before .before .high-byte5 .ensures) (cons (c .before .before .before .before .before .before .before .before .before .before .before .before .before .low-byte6 .ensures) (cons (c .before .before .before .before .before .before .before .before .before .before .before .before .high-byte6 .ensures) (cons (c .before .before .before .before .before .before .before .before .before .before .before .low-byte7 .ensures) (cons (c .before .before .before .before .before .before .before .before .before .before .high-byte7 .ensures) (cons (c .before .before .before .before .before .before .before .before .before .low-byte8 .ensures) (cons (c .before .before .before .before .before .before .before .before .high-byte8 .ensures) (cons (c .before .before .before .before .before .before .before .low-byte9 .ensures) (cons (c .before .before .before .before .before .before .high-byte9 .ensures) (cons (c .before .before .before .before .before .low-byte10 .ensures) (cons (c .before .before .before .before .high-byte10 .ensures) (cons (c .before .before .before .low-byte11 .ensures) (cons (c .before .before .high-byte11 .ensures) (cons (c .before .low-byte12 .ensures) (cons (c .high-byte12 .ensures) refl)))))))))))))))))))))))))  -- returns

@@ -9,9 +9,8 @@ returns : tie.Need-returns
 returns c =
     let line = c .before .before .before .before in
     let judged = line .before .before .before in
-    let board = judged .before .before in
-    let args = board .before .before .before .before .args in
-    refused _ (now (args .exercise)) (now (args .answer)) (judged .judge-on .result) (board .house-board .ensures) (judged .judge-on .ensures .0)
+    let args = judged .before .before .before .before .before .before .args in
+    refused (now (args .settings)) (now (args .exercise)) (now (args .answer)) (judged .judge-sheets .result) (judged .judge-sheets .ensures .0)
     (line .verdict-line .ensures) (c .if1 .taken)
 
 returns-2 : tie.Need-returns-2
@@ -21,19 +20,17 @@ returns-2 c =
     let cells = marks .before .before in
     let line = cells .before .before .before .before .before in
     let judged = line .before .before .before in
-    let board = judged .before .before in
-    let args = board .before .before .before .before .args in
-    legal _ (now (args .exercise)) (now (args .answer)) (judged .judge-on .result) (board .house-board .ensures) (judged .judge-on .ensures .0)
-    (line .verdict-line .ensures) _ _ _ (cells .before .if1 .left) (judged .judge-on .ensures .1) (cells .cell-count .ensures)
+    let args = judged .before .before .before .before .before .before .args in
+    legal (now (args .settings)) (now (args .exercise)) (now (args .answer)) (judged .judge-sheets .result) (judged .judge-sheets .ensures .0)
+    (line .verdict-line .ensures) _ _ _ (cells .before .if1 .left) (judged .judge-sheets .ensures .1) (cells .cell-count .ensures)
     (marks .mark-labs .ensures) (lines .lab-lines .ensures)
 
 pub listing-spec : {M : Type 1} → statement M
 listing-spec =
     tie.close
     (tie.spec
-    (λ c κs. search needs)  -- house-board-requires
-    (λ c. search needs)  -- slice-aggregate-judge-on
-    (λ c κs. search needs)  -- judge-on-requires
+    (λ c. search needs)  -- slice-aggregate-judge-sheets
+    (λ c κs. search needs)  -- judge-sheets-requires
     (λ c κs. search needs)  -- verdict-line-requires
     (λ c. search needs)  -- same-length
     returns

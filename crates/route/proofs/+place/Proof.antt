@@ -106,4 +106,4 @@ pub +place-spec : {M : Type 1} → statement M
     let a = l .before .before .before .args in
     let ok = okOf (a .table) (a .t2) (a .n) (a .at) (a .taken) in
     let rest = restOf (a .table) (a .t2) (a .n) (a .at) (a .taken) in
-    no-entry-left (a .at) (allOf (a .table) (a .t2) (a .n) (a .at) (a .taken)) (l .loop .inv .1 ∙ pick-end ok rest 6 (l .loop .e) (c .loop-test .left)))  -- returns-3
+    no-entry-left (a .at) (allOf (a .table) (a .t2) (a .n) (a .at) (a .taken)) (l .loop .inv .1 ∙ pick-end ok rest ENTRIES (l .loop .e) (c .loop-test .left)))  -- returns-3

@@ -20,6 +20,6 @@ put-answer-head-spec =
     (λ c κs. search needs)  -- put-u16-requires
     (λ c. search needs)  -- same-length
     (λ c. let s = c .before .before .before .before .before .before .before .before .before .before .before .before .before in let l = s .args .to .now in
-    let mark : _ ≡ sets l 0 (markBytes 65) = c .before .before .before .before .before .before .before .before .before .before .put-mark .ensures in
-    let named = then-put l _ _ 0 5 (markBytes 65) (u32Bytes (s .args .apprentice)) mark refl (c .before .before .before .before .before .before .put-u32 .ensures) in
-    then-put l _ _ 0 9 (markBytes 65 ++ u32Bytes (s .args .apprentice)) (u16Bytes (s .args .total)) named refl (c .before .before .put-u16 .ensures)))  -- returns
+    let mark : _ ≡ sets l 0 (markBytes 65 1) = c .before .before .before .before .before .before .before .before .before .before .put-mark .ensures in
+    let named = then-put l _ _ 0 5 (markBytes 65 1) (u32Bytes (s .args .apprentice)) mark refl (c .before .before .before .before .before .before .put-u32 .ensures) in
+    then-put l _ _ 0 9 (markBytes 65 1 ++ u32Bytes (s .args .apprentice)) (u16Bytes (s .args .total)) named refl (c .before .before .put-u16 .ensures)))  -- returns

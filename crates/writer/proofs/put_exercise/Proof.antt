@@ -3,7 +3,8 @@ use borrow.Author.Needs.{needs}
 use mathlib.Core.Path.{refl}
 use lib.ListN.{length}
 use Rattle.sheet.specs.Lists.{concatMap}
-use Rattle.writer.specs.Exercises.{exerciseHead, recordBytes, exerciseSheet}
+use Rattle.exercise.specs.Record.{recordBytes}
+use Rattle.writer.specs.Exercises.{exerciseHead, exerciseSheet}
 use Rattle.writer.proofs.Putting.{then-put}
 use Rattle.writer.proofs.put_exercise.Statement.{statement}
 use Rattle.writer.proofs.put_exercise.Tie as tie

@@ -20,6 +20,6 @@ put-exercise-head-spec =
     (λ c κs. search needs)  -- put-u16-requires-2
     (λ c. search needs)  -- same-length
     (λ c. let s = c .before .before .before .before .before .before .before .before .before .before .before .before .before in let l = s .args .to .now in
-    let mark : _ ≡ sets l 0 (markBytes 69) = c .before .before .before .before .before .before .before .before .before .before .put-mark .ensures in
-    let nets = then-put l _ _ 0 5 (markBytes 69) (u16Bytes (s .args .nets)) mark refl (c .before .before .before .before .before .before .put-u16 .ensures) in
-    then-put l _ _ 0 7 (markBytes 69 ++ u16Bytes (s .args .nets)) (u16Bytes (s .args .total)) nets refl (c .before .before .put-u162 .ensures)))  -- returns
+    let mark : _ ≡ sets l 0 (markBytes 69 1) = c .before .before .before .before .before .before .before .before .before .before .put-mark .ensures in
+    let nets = then-put l _ _ 0 5 (markBytes 69 1) (u16Bytes (s .args .nets)) mark refl (c .before .before .before .before .before .before .put-u16 .ensures) in
+    then-put l _ _ 0 7 (markBytes 69 1 ++ u16Bytes (s .args .nets)) (u16Bytes (s .args .total)) nets refl (c .before .before .put-u162 .ensures)))  -- returns

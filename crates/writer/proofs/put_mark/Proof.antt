@@ -18,6 +18,7 @@ put-mark-spec =
     (λ c. lt-length-set (set (c .before .args .to .now) 0 76) 1 88 (lt-length-set (c .before .args .to .now) 0 76 (omega (arith, c .before .pre))))  -- slice-write-to-3
     (λ c κs. search needs)  -- put-u16-requires
     (λ c. let s = c .before .before .before .before .before in
-    let e : c .before .before .put-u16 .last .0 ≡ sets (s .args .to .now) 0 (markBytes (s .args .third)) = c .before .before .put-u16 .ensures in
-    ap length e ∙ length-sets (s .args .to .now) 0 (markBytes (s .args .third)))  -- same-length
+    let mark = markBytes (s .args .third) (s .args .version) in
+    let e : c .before .before .put-u16 .last .0 ≡ sets (s .args .to .now) 0 mark = c .before .before .put-u16 .ensures in
+    ap length e ∙ length-sets (s .args .to .now) 0 mark)  -- same-length
     (λ c. c .before .before .put-u16 .ensures))  -- returns

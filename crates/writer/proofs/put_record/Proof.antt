@@ -6,7 +6,7 @@ use lib.ListN.{getD}
 use Rattle.sheet.specs.Lists.{below}
 use Rattle.sheet.proofs.Lists.{below-at}
 use Rattle.sheet.specs.Bytes.{u16Bytes}
-use Rattle.writer.specs.Exercises.{recordBytes}
+use Rattle.exercise.specs.Record.{recordBytes}
 use Rattle.writer.proofs.Putting.{Stored, store-starts, store-goes, store-ends}
 use Rattle.writer.proofs.put_record.Statement.{statement}
 use Rattle.writer.proofs.put_record.Tie as tie

@@ -4,7 +4,7 @@ use Prim.Native.Nat.{_+_, _*_, _-_}
 use mathlib.Core.Path.{refl}
 use mathlib.Core.List.{[]}
 use lib.ListN.{length, getD}
-use Rattle.writer.specs.Exercises.{recordBytes}
+use Rattle.exercise.specs.Record.{recordBytes}
 use Rattle.writer.proofs.Sheets.{record-size}
 use Rattle.writer.proofs.Putting.{Stored, store-starts, store-goes, store-ends}
 use Rattle.writer.proofs.put_records.Statement.{statement}

@@ -5,7 +5,7 @@ use mathlib.Core.List.{List, [], _∷_, _++_}
 use lib.ListN.{length, getD}
 use lib.Dec.{ltb}
 use Rattle.sheet.specs.Lists.{concatMap}
-use Rattle.sheet.specs.Bytes.{lowByte}
+use Rattle.sheet.specs.Bytes.{lowByte, u16Bytes}
 use Rattle.writer.specs.Answers.{Placement, answerHead}
 
 -- the three numbers cut to bytes, and a zero
@@ -20,6 +20,6 @@ cutSheet x = answerHead (x .apprentice) (length (x .places)) ++ concatMap cutByt
 unfoldable pub offBoard : List ℕ → Bool
 offBoard p = ltb 31 (getD p 0 0) || ltb 31 (getD p 1 0) || ltb 15 (getD p 2 0)
 
--- the first five bytes of a sheet: the mark with this third letter, version 1
-unfoldable pub markBytes : ℕ → List ℕ
-markBytes third = 76 ∷ 88 ∷ third ∷ 1 ∷ 0 ∷ []
+-- the first five bytes of a sheet: the mark with this third letter, and a version
+unfoldable pub markBytes : ℕ → ℕ → List ℕ
+markBytes third version = 76 ∷ 88 ∷ third ∷ u16Bytes version

@@ -1,0 +1,35 @@
+-- The supplied settings sheet passes 70 to 75, so its checks are passed over, and the table on it is document 01's. Assumes nothing.
+use Prim.Native.Nat.{ℕ}
+use mathlib.Core.Path.{_≡_, refl, _∙_}
+use mathlib.Core.List.{List, _++_}
+use Rattle.sheet.specs.Lists.{concatMap, below}
+use Rattle.sheet.specs.Header.{wrongMark}
+use Rattle.route.specs.Table.{Table}
+use Rattle.settings.specs.Settings.{wrongSettingsLength, otherFlags}
+use Rattle.settings.specs.House.{houseSettings}
+use Rattle.settings.proofs.Laws.{house}
+use Rattle.lab_rules.specs.Rules.{labChecks}
+use Rattle.judge.specs.Judge.{Check, ofLab, labCells, roomChecks, settingsGroup, sheetChecks, labGroup, checksTo51, checks, firstBroken, verdictOf, judged, routeBytes, routed}
+use Rattle.judge.specs.AsBefore.{AsBefore, onHouse, checksOf01, judgedBy01, routedBy01}
+
+-- 70 to 75
+passed-over : (r : ℕ) (ys zs : List Check) → firstBroken ((roomChecks r ++ (settingsGroup houseSettings ++ ys)) ++ zs) ≡ firstBroken ((roomChecks r ++ ys) ++ zs)
+unfolding roomChecks settingsGroup houseSettings wrongMark wrongSettingsLength otherFlags
+passed-over r ys zs = refl
+
+module _ (e a : List ℕ) (r : ℕ) where
+  found-same : firstBroken (checks (onHouse e a r)) ≡ firstBroken (checksOf01 e a r)
+  unfolding checks checksTo51 labGroup checksOf01
+  found-same = rw (house .holds-board) (passed-over r (sheetChecks e a) _)
+
+  verdict-same : judged (onHouse e a r) ≡ judgedBy01 e a r
+  unfolding judged judgedBy01
+  verdict-same = rw found-same
+
+  route-same : (before : List ℕ) → routed (onHouse e a r) before ≡ routedBy01 e a r before
+  unfolding routed routedBy01 routeBytes
+  route-same before = rw (verdict-same, house .holds-board)
+
+-- 65, 70 to 75
+pub as-before : AsBefore
+as-before = record { same-verdict = verdict-same; same-route = route-same }
