@@ -77,8 +77,9 @@ places-read a p =
 board-read : (s : List ℕ) → SettingsPass s → BoardRead s (boardOf s)
 unfolding SettingsPass boardOf settingsNumbers settingsEntries
 board-read s p =
-    let full = flags-length s p in
-    let room = passed s p .few in
+    let whole = passed s p in
+    let full = flags-length s whole in
+    let room = whole .few in
     record {
       told = p;
       version = rw p;

@@ -29,8 +29,8 @@ passed s h =
     record { marked = mark; known = kind; few = ltb-false _ _ count; long = eqb-true _ _ (not-false _ size); roles = roles }
 
 -- it has as many bytes of flags as it says
-pub flags-length : (s : List ℕ) → settingsNumber s ≡ 0 → length (flags s) ≡ entryCount s
-flags-length s h = rw (length-take, length-drop) (omega (arith, passed s h .long))
+pub flags-length : (s : List ℕ) → Passed s → length (flags s) ≡ entryCount s
+flags-length s p = rw (length-take, length-drop) (omega (arith, p .long))
 
 -- its numbers are 70 and above
 pub settings-high : (s : List ℕ) → (settingsNumber s ≡ 0 → ⊥) → 70 ≤ settingsNumber s

@@ -27,20 +27,20 @@ pub fn house_settings() -> [u8; 12]
     [b'L', b'X', b'T', 1, 0, 6, 1, 5, 3, 18, 12, 24]
 }
 
-pub fn version(settings: &[u8]) -> u16
+fn version(settings: &[u8]) -> u16
     ensures { λ r. ⌜ r ≡ version (now (settings .entry)) ⌝ }
 {
     sheet::u16_at(settings, sheet::VERSION_AT)
 }
 
-pub fn entry_count(settings: &[u8]) -> u8
+fn entry_count(settings: &[u8]) -> u8
     ensures { λ r. ⌜ r ≡ entryCount (now (settings .entry)) ⌝ }
 {
     sheet::byte_at(settings, COUNT_AT)
 }
 
 // The board's number, 0 in version 1.
-pub fn board(settings: &[u8]) -> u16
+fn board(settings: &[u8]) -> u16
     ensures { λ r. ⌜ r ≡ board (now (settings .entry)) ⌝ }
 {
     if version(settings) == 2 {
@@ -60,7 +60,7 @@ fn flags_start(settings: &[u8]) -> u8
 }
 
 // The bytes of role flags, one an entry.
-pub fn flags(settings: &[u8]) -> &[u8]
+fn flags(settings: &[u8]) -> &[u8]
     ensures { λ r. ⌜ now r ≡ flags (now (settings .entry)) ⌝ }
 {
     sheet::part(

@@ -5,8 +5,8 @@ use mathlib.Core.Path.{_≡_, refl, sym, ap, _∙_}
 use mathlib.Core.Bool.{true, false, not, _&&_, true≢false}
 use mathlib.Core.List.{List, _∷_}
 use native.Mathlib.Omega.{arith}
-use lib.ListN.{length, take, drop, length-drop}
-use lib.Seq.{length-take-le, take-all, take-add}
+use lib.ListN.{length, take}
+use lib.Seq.{take-all, take-add}
 use lib.Dec.{eqb}
 use borrow.Author.Tests.{eq-eqb, le-ltb, eqb-true, ltb-false, not-false}
 use Rattle.sheet.specs.Bytes.{byteAt}
@@ -16,9 +16,9 @@ use Rattle.sheet.proofs.Laws.{by-test, or-parts}
 use Rattle.route.specs.Table.{ENTRIES}
 use Rattle.settings.specs.Settings.{version, entryCount, board, headOf, flagsStart, flags}
 use Rattle.settings.specs.Settings.{unknownVersion, wrongSettingsLength, otherFlags, settingsChecks, settingsNumber}
-use Rattle.settings.proofs.Laws.{Passed, passed}
+use Rattle.settings.proofs.Laws.{Passed, passed, flags-length}
 use Rattle.writer.specs.Boards.{Board, settingsHead, settingsSheet, boardOf}
-use Rattle.writer.specs.Boards.{wrongBoard, settingsWriterChecks, settingsRefusal, SettingsPass, SixteenBits}
+use Rattle.writer.specs.Boards.{wrongBoard, settingsWriterChecks, settingsRefusal, SettingsPass}
 use Rattle.writer.specs.Laws.{AllBytes, TwoLaws, settingsFormat}
 use Rattle.writer.proofs.Sheets.{settings-length, version-back, count-back, flags-back}
 use Rattle.writer.proofs.Rooms.{six-fit}
@@ -64,7 +64,7 @@ module _ (x : Board) where
       let whole : wrongSettingsLength s ≡ false = rw (version-back x, count-back x, eq-eqb (length s) (headOf (x .version) + n) size) in
       none-broken (settingsChecks s) (long, (marked, (rw (version-back x) known, (count, (whole, (rw (flags-back x) roles, tt))))))
 
-  settings-writes : (room : ℕ) → SixteenBits x → settingsRefusal x room ≡ 0 → (length s ≤ room) × SettingsPass s × (boardOf s ≡ x)
+  settings-writes : (room : ℕ) → Unit {0} → settingsRefusal x room ≡ 0 → (length s ≤ room) × SettingsPass s × (boardOf s ≡ x)
   unfolding settingsRefusal boardOf wrongBoard
   settings-writes room given h =
       let (right, (few, (roles, (fits, _)))) = all-held (settingsWriterChecks x room) refl h in
@@ -83,13 +83,10 @@ module _ (s : List ℕ) (b : AllBytes s) (p : Passed s) where
       (λ t. let long = rw t at (p .long) in
       rw t (mark-again 84 (version s) s b (p .marked) refl refl ∙ bytes-front s 6 (omega arith)))
 
-  flags-count : length (flags s) ≡ entryCount s
-  flags-count = length-take-le (entryCount s) (drop (flagsStart s) s) (rw length-drop (omega arith))
-
   bytes-again : settingsSheet (boardOf s) ≡ s
   unfolding settingsSheet boardOf
   bytes-again =
-      rw (flags-count, head-again)
+      rw (flags-length s p, head-again)
       (sym (take-add (flagsStart s) (entryCount s) s) ∙ take-all (flagsStart s + entryCount s) s (omega arith))
 
   right-again : wrongBoard (version s) (board s) ≡ false
@@ -102,8 +99,8 @@ module _ (s : List ℕ) (b : AllBytes s) (p : Passed s) where
   settings-again : (room : ℕ) → length s ≤ room → (settingsSheet (boardOf s) ≡ s) × (settingsRefusal (boardOf s) room ≡ 0)
   unfolding boardOf settingsRefusal
   settings-again room roomy =
-      let few = le-ltb ENTRIES (length (flags s)) (rw flags-count (p .few)) in
-      let fits = le-ltb room (flagsStart s + length (flags s)) (rw flags-count (omega arith)) in
+      let few = le-ltb ENTRIES (length (flags s)) (rw (flags-length s p) (p .few)) in
+      let fits = le-ltb room (flagsStart s + length (flags s)) (rw (flags-length s p) (omega arith)) in
       (bytes-again, none-broken (settingsWriterChecks (boardOf s) room) (right-again, (few, (p .roles, (fits, tt)))))
 
 -- 70 to 75: what is written passes them, and what passes them is written again

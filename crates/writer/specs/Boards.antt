@@ -1,6 +1,6 @@
 -- Request M-102, the writer of the settings sheet: version, board number and entries in, bytes out. "A writer for it keeps the version and board
 -- it is given, under M-100's two laws (with 70 to 75)". Assumes nothing.
-use Prim.Native.Nat.{ℕ, _+_, _<_}
+use Prim.Native.Nat.{ℕ, _+_}
 use mathlib.Core.Path.{_≡_}
 use mathlib.Core.Bool.{Bool, cond, not, _&&_, _||_}
 use mathlib.Core.List.{List, [], _∷_, _++_}
@@ -53,7 +53,3 @@ boardOf s = board (sheet.version s) (sheet.board s) (flags s)
 -- "with 70 to 75"
 unfoldable pub SettingsPass : List ℕ → Type 0
 SettingsPass s = settingsNumber s ≡ 0
-
--- the board's number is one of 16 bits
-unfoldable pub SixteenBits : Board → Type 0
-SixteenBits x = x .number < 65536

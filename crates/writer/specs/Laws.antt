@@ -12,7 +12,7 @@ use Rattle.placing.specs.Places.{outOfRangeAt}
 use Rattle.writer.specs.Writing.{told, bufferAfter}
 use Rattle.writer.specs.Exercises.{Netlist, exerciseSheet, exerciseRefusal, netlistOf, ExercisePasses, TwelveEach}
 use Rattle.writer.specs.Answers.{Placement, answerSheet, answerRefusal, placementOf, AnswerPasses, ThreeEach}
-use Rattle.writer.specs.Boards.{Board, settingsSheet, settingsRefusal, boardOf, SettingsPass, SixteenBits}
+use Rattle.writer.specs.Boards.{Board, settingsSheet, settingsRefusal, boardOf, SettingsPass}
 
 -- a format of sheets that say an A
 pub record Format (A : Type 0) : Type 1 where
@@ -32,7 +32,7 @@ abbrev pub answerFormat : Format Placement
 answerFormat = record { sheet = answerSheet; refusal = answerRefusal; says = placementOf; Passes = AnswerPasses; Given = ThreeEach }
 
 abbrev pub settingsFormat : Format Board
-settingsFormat = record { sheet = settingsSheet; refusal = settingsRefusal; says = boardOf; Passes = SettingsPass; Given = SixteenBits }
+settingsFormat = record { sheet = settingsSheet; refusal = settingsRefusal; says = boardOf; Passes = SettingsPass; Given = λ _. Unit {0} }
 
 -- every number of the list is a byte
 abbrev pub AllBytes : List ℕ → Type 0
