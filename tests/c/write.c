@@ -1,6 +1,6 @@
-/* Calls both writers as a tablet or an author's program would: every refusal at both sides of its limit, the refusals in their order, and
- * every byte of what is written. The sheet stands between guards and then in a block of its own, the records always in one, and what was
- * written is read back (writers.h). */
+/* Calls the writers of exercise and answer as a tablet or an author's program would: every refusal at both sides of its limit, the refusals
+ * in their order, and every byte of what is written. The sheet stands between guards and then in a block of its own, the records always in
+ * one, and what was written is read back (writers.h). */
 #include "writers.h"
 
 /* As many records as any case here has. */
@@ -352,6 +352,6 @@ int main(void)
     for (i = 0; i < sizeof numbers; i++)
         expect(returned[numbers[i]] > 0, "every number was returned", numbers[i]);
     if (failures == 0)
-        printf("C: both writers as expected in %ld calls, %ld of them refused\n", calls, calls - returned[0]);
+        printf("C: the writers of exercise and answer as expected in %ld calls, %ld of them refused\n", calls, calls - returned[0]);
     return failures != 0;
 }

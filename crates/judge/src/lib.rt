@@ -75,7 +75,7 @@ pub struct Finding {
     pub lab: u16,
 }
 
-// A part of one of the two sheets.
+// A part of the exercise or of the answer.
 pub struct Part {
     pub of_answer: bool,
     pub start: usize,
