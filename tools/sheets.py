@@ -598,10 +598,10 @@ def settled_samples():
            legal(12, 19, {70: [0, 2, F, F, 1, 4, 5, 3]}))
 
 
-def wide_cells():
-    """Nine combinational cells that read nets 0 to 35 and drive nets 38 to 46."""
+def wide_cells(first=38):
+    """Nine combinational cells that read nets 0 to 35 and drive nine nets, the first being 38."""
     return [comb(a=net(4 * i), b=net(4 * i + 1), c=net(4 * i + 2), d=net(4 * i + 3),
-                 o=net(38 + i)) for i in range(9)]
+                 o=net(first + i)) for i in range(9)]
 
 
 def long_shift(cells):
@@ -632,6 +632,18 @@ def edge_samples():
                            d=net(4 * i + 5), o=net(42 + i)) for i in range(9)]),
            answer(40, (5, 4, 15), (5, 3, 0), *[(5, 3, 1 + i) for i in range(9)]),
            legal(40, 55, {101: EMPTY, 133: EMPTY}))
+
+    sample("edge-38-nets-twice", "two LABs that read the same 38 nets",
+           exercise(58, *wide_cells(), comb(a=net(36), b=net(37), o=net(47)),
+                    *wide_cells(48), comb(a=net(36), b=net(37), o=net(57))),
+           answer(41, *ten, *[(6, 0, i) for i in range(10)]),
+           legal(41, 91, {5: EMPTY, 6: EMPTY}))
+    sample("edge-38-nets-driven-later",
+           "38 nets read by one LAB, and one more that its last cell drives",
+           exercise(49, *wide_cells(), comb(a=net(36), b=net(37), c=net(47), o=net(48)),
+                    comb(a=net(0), o=net(47))),
+           answer(42, *ten, (5, 0, 10)),
+           legal(42, 55, {5: EMPTY}))
 
     sample("edge-le-15", "LE 15 is the last",
            LISTING_EX, answer(15, (2, 1, 15), (2, 1, 15)),
@@ -999,6 +1011,17 @@ def lab_samples():
                     reg(d=net(36), clk=net(37), aclr=net(38), q=net(40))),
            answer(1640, (3, 0, 0), *[(7, 1, i) for i in range(10)]),
            Expected(64, ("answer", 15, 4), lab=39, apprentice=1640))
+    sample("v64-nets-of-lower-lab",
+           "LAB 5 reads 38 nets, and LAB 6 the same and one more: all 39 count there",
+           exercise(59, *wide_cells(), comb(a=net(36), b=net(37), o=net(47)),
+                    *wide_cells(48), comb(a=net(36), b=net(37), c=net(58), o=net(57))),
+           answer(1641, *[(5, 0, i) for i in range(10)], *[(6, 0, i) for i in range(10)]),
+           Expected(64, ("answer", 51, 4), lab=6, apprentice=1641))
+    sample("v64-driven-elsewhere", "38 nets and one more that a cell of another LAB drives",
+           exercise(49, *wide_cells(), comb(a=net(36), b=net(37), c=net(47), o=net(48)),
+                    comb(a=net(0), o=net(47))),
+           answer(1642, *[(5, 0, i) for i in range(10)], (6, 0, 0)),
+           Expected(64, ("answer", 11, 4), lab=5, apprentice=1642))
     sample("v65-constant-clock",
            "two ena take 2 and 3, two aclr take 1 and 4: sclr and sload both need 5",
            exercise(11, comb(a=net(7), o=net(8)),

@@ -1,7 +1,8 @@
 //! Time per judgement of the proved judge and of the Rust judge on the same
 //! sheets, also where the search for a way is long, how it grows with the number of
-//! cells, and what the least work takes in the same run; then the list check, the
-//! readers and the writers beside plain ones.
+//! cells, how the count of nets into a LAB grows with the number of reads, and what
+//! the least work takes in the same run; then the list check, the readers and the
+//! writers beside plain ones.
 
 mod generate;
 mod judge;
@@ -343,21 +344,26 @@ fn bounds(rng: &mut Rng, growth: &[(Outcome, &str, Vec<(f64, f64)>)]) {
     }
 }
 
-/// One line: both on the same inputs, in turn. Gives the proved one's time.
-fn compare<T>(
-    what: &str,
-    size: usize,
-    inputs: &[T],
-    mut proved: impl FnMut(&T),
-    mut plain: impl FnMut(&T),
-) -> f64 {
+/// Microseconds per input, both on the same inputs, in turn.
+fn both<T>(inputs: &[T], mut proved: impl FnMut(&T), mut plain: impl FnMut(&T)) -> (f64, f64) {
     let n = rounds(inputs, &mut proved);
     let (mut left, mut right) = (Vec::new(), Vec::new());
     for _ in 0..RUNS {
         left.push(run(inputs, n, &mut proved));
         right.push(run(inputs, n, &mut plain));
     }
-    let (p, y) = (median(left) / 1000.0, median(right) / 1000.0);
+    (median(left) / 1000.0, median(right) / 1000.0)
+}
+
+/// One line: both on the same inputs. Gives the proved one's time.
+fn compare<T>(
+    what: &str,
+    size: usize,
+    inputs: &[T],
+    proved: impl FnMut(&T),
+    plain: impl FnMut(&T),
+) -> f64 {
+    let (p, y) = both(inputs, proved, plain);
     row(what, size, p, y);
     p
 }
@@ -460,6 +466,127 @@ fn eight_needs(rng: &mut Rng) -> Sheets {
     }
 }
 
+/// Reads by a LAB of 32 cells: none, at the data ports of its combinational cells,
+/// at datain, clk, ena and aclr of its registers too, and at all ports. A cell with
+/// a read at datad has no carry.
+const READS: [usize; 4] = [0, 64, 128, 176];
+
+/// LABs with as many registers as combinational cells, each cell with an output. What
+/// is connected reads one of 38 nets from outside the LAB, six of which are for the
+/// control ports, or a net that is driven inside, about as often.
+fn connected(rng: &mut Rng, labs: usize, pairs: usize, reads: usize) -> Sheets {
+    const OUTSIDE: u16 = 38;
+    let mut s = Sheets {
+        nets: OUTSIDE,
+        cells: Vec::new(),
+        apprentice: 1 + rng.below(1000) as u32,
+    };
+    let step = 1024 / labs;
+    let shift = rng.below(step);
+    for k in 0..labs {
+        let lab = k * step + shift;
+        let inside = s.nets;
+        s.nets += 2 * pairs as u16;
+        let mut data: Vec<u16> = (6..OUTSIDE).map(net).collect();
+        data.extend((0..32).map(|j| net(inside + j % (2 * pairs as u16))));
+        rng.shuffle(&mut data);
+        let mut next = data.iter().cycle();
+        let mut datum = || *next.next().unwrap();
+        for j in 0..pairs {
+            let mut c = Cell::new(COMBINATIONAL, lab, j);
+            if reads >= READS[1] {
+                for port in [DATAA, DATAB, DATAC, DATAD] {
+                    c.s[port] = datum();
+                }
+            }
+            c.s[COMBOUT] = net(inside + j as u16);
+            s.cells.push(c);
+            let mut r = Cell::new(REGISTER, lab, j);
+            if reads >= READS[2] {
+                r.s[DATAIN] = datum();
+                (r.s[CLK], r.s[ENA], r.s[ACLR]) = (net(j as u16 % 2), net(2), net(3));
+            }
+            if reads >= READS[3] {
+                (r.s[SCLR], r.s[SLOAD], r.s[SDATA]) = (net(4), net(5), datum());
+            }
+            r.s[REGOUT] = net(inside + (pairs + j) as u16);
+            s.cells.push(r);
+        }
+    }
+    rng.shuffle(&mut s.cells);
+    s
+}
+
+/// The count of nets into a LAB: full LABs by the number of reads, LABs of six cells,
+/// which are the smallest whose nets are counted, and the check of one full LAB.
+fn nets(rng: &mut Rng) {
+    println!();
+    println!(
+        "nets into a LAB: legal LABs by their cells and their reads, median of up to {RUNS} runs"
+    );
+    println!(
+        "{:<19}{:>6}{:>6}{:>8}{:>13}{:>13}{:>8}{:>13}{:>10}",
+        "call", "cells", "LABs", "reads", "proved us", "Rust us", "ratio", "ns per read", "Rust"
+    );
+    let line =
+        |call: &str, [cells, labs, reads]: [usize; 3], (p, r): (f64, f64), none: (f64, f64)| {
+            let ratio = p / r;
+            let each = |t: f64, t0: f64| {
+                if reads == 0 || t0 == 0.0 {
+                    "-".to_string()
+                } else {
+                    format!("{:.2}", (t - t0) * 1000.0 / (reads * labs) as f64)
+                }
+            };
+            println!(
+                "{call:<19}{cells:>6}{labs:>6}{reads:>8}{p:>13.3}{r:>13.3}{ratio:>8.2}{:>13}{:>10}",
+                each(p, none.0),
+                each(r, none.1)
+            );
+        };
+    for (labs, pairs) in [(1, 16), (16, 16), (85, 3)] {
+        let mut none = (0.0, 0.0);
+        for reads in READS {
+            let mut inputs = Vec::new();
+            let mut route = vec![0u8; judge::ROUTE];
+            for _ in 0..VARIANTS {
+                let s = connected(rng, labs, pairs, reads);
+                let (e, a) = (s.exercise(), s.answer());
+                let v = proved::numbers(&judge::judge(&HOUSE, &e, &a, &mut route));
+                assert_eq!((v[0], s.cells.len()), (0, 2 * labs * pairs));
+                assert_eq!(proved::judge(&HOUSE, &e, &a, &mut route), v);
+                inputs.push((e, a));
+            }
+            let each = judges(&HOUSE, &inputs);
+            let shape = [2 * pairs * labs, labs, reads * pairs / 16];
+            line("judgement", shape, each, none);
+            if reads == 0 {
+                none = each;
+            }
+            if labs > 1 {
+                continue;
+            }
+            let lists: Vec<Vec<CellRecord>> = inputs
+                .iter()
+                .map(|(e, _)| e[9..].chunks_exact(24).map(plain::record).collect())
+                .collect();
+            for l in &lists {
+                assert_eq!(proved::check_lab(&HOUSE, l).0, 0);
+            }
+            let (p, r) = both(
+                &lists,
+                |l| {
+                    black_box(proved::check_lab(&HOUSE, l));
+                },
+                |l| {
+                    black_box(plain::check_list(&HOUSE, l));
+                },
+            );
+            line("check of one LAB", shape, (p, r), (0.0, 0.0));
+        }
+    }
+}
+
 fn main() {
     let mut rng = Rng::new(1);
     let mut route = vec![0u8; judge::ROUTE];
@@ -535,6 +662,7 @@ fn main() {
             );
         }
     }
+    nets(&mut rng);
     bounds(&mut rng, &growth);
     forms(&mut rng);
 }

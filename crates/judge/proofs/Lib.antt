@@ -9,6 +9,7 @@ pub mod Held
 pub mod Kept
 pub mod Refusal65
 pub mod RouteHeld
+pub mod NetMarks
 pub mod Faults
 pub mod CulpritInside
 pub mod NamesCulprit

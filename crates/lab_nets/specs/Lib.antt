@@ -1,2 +1,3 @@
 pub mod NetsIn
+pub mod Marked
 pub mod passes

@@ -3,6 +3,7 @@ pub mod Linking
 pub mod Taking
 pub mod Same
 pub mod Short
+pub mod Marked
 pub mod Filling
 pub mod Passing
 pub mod Rows

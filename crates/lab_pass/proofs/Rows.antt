@@ -12,12 +12,11 @@ use borrow.Author.Tests.{ltb-true, ltb-false}
 use Rattle.sheet.specs.Lists.{concatMap, from, below}
 use Rattle.exercise.specs.declared.Record.{Record}
 use Rattle.sheet.proofs.Laws.{by-test}
-use Rattle.distinct.specs.passes.Marks.{readMarks}
 use Rattle.route.specs.declared.Need.{Need}
 use Rattle.route.specs.Table.{Table}
 use Rattle.route.specs.Way.{earliestWay}
 use Rattle.route.specs.Route.{eightBytes, labRouteOf}
-use Rattle.lab_nets.specs.passes.Uses.{markCells}
+use Rattle.lab_nets.specs.passes.Uses.{netsWithin}
 use Rattle.lab_rules.specs.passes.Counts.{noCounts, countsAll, brokenBy, needsHeld, routedResult, resultFrom}
 use Rattle.lab_rules.specs.declared.Counts.{Counts}
 use Rattle.lab_pass.specs.passes.Results.{resultOf, putRow, putRows}
@@ -133,4 +132,4 @@ from-eight t k nets = by-test (eqb (brokenBy k nets) 0) (λ e. rw e (routed-eigh
 pub bytes-eight : (t : Table) (get : ℕ → Record) (is : List ℕ) → length (resultOf t get is .bytes) ≡ 8
 unfolding resultOf
 bytes-eight t get is =
-    from-eight t (countsAll noCounts (map get is)) (readMarks (markCells (replicate 1024 0) (map get is)))
+    from-eight t (countsAll noCounts (map get is)) (length (netsWithin (map get is)))

@@ -1,68 +1,36 @@
 -- A LAB of five cells at the most reads 35 nets at the most, so its result is the same with no net counted; and how the loop of `is_short` goes.
 -- Assumes nothing.
-use Prim.Native.Nat.{ℕ, zero, suc, _+_, _*_, _-_, _≤_, _<_}
-use mathlib.Core.Path.{_≡_, sym, _∙_}
-use mathlib.Core.Bool.{Bool, true, false, cond}
-use mathlib.Core.List.{List, [], _∷_, _++_, map}
+use Prim.Native.Nat.{ℕ, suc, _+_, _*_, _-_, _≤_, _<_}
+use mathlib.Core.Path.{_≡_, sym, ap, _∙_}
+use mathlib.Core.Bool.{Bool, true, false, cond, not}
+use mathlib.Core.List.{List, [], _∷_, map}
 use native.Mathlib.Nat.{sub-zero}
 use native.Mathlib.Omega.{arith}
-use lib.ListN.{length, length-map, getD, set, replicate}
-use lib.Dec.{eqb, leb}
-use borrow.Author.Tests.{lt-ltb, le-ltb, le-leb, lt-leb, leb-true}
-use Rattle.sheet.specs.Lists.{filterb, concatMap}
+use lib.ListN.{length, length-map, length-append, getD}
+use lib.Dec.{leb, ltb}
+use borrow.Author.Tests.{lt-ltb, le-ltb, ltb-false, le-leb, lt-leb, leb-true}
+use Rattle.sheet.specs.Lists.{filterb, elemb, concatMap}
 use Rattle.sheet.specs.Signal.{isNet, netOf}
 use Rattle.exercise.specs.declared.Record.{Record}
 use Rattle.exercise.specs.declared.Record.the-variants.{Combinational, Register, Malformed}
 use Rattle.exercise.specs.Record.{outputs}
 use Rattle.sheet.proofs.Laws.{by-test}
 use Rattle.sheet.proofs.Lists.{filter-length}
-use Rattle.distinct.specs.passes.Marks.{Use, reads, drives, netsRead, markRead, markDriven, markAll, readMarks}
+use Rattle.distinct.specs.Rising.{rising}
+use Rattle.distinct.specs.declared.LabMarks.{LabMarks}
+use Rattle.distinct.specs.passes.Marks.{Marking, marking, Lower}
+use Rattle.distinct.proofs.Rising.{distinct-length}
+use Rattle.distinct.proofs.Nets.{lower-more}
 use Rattle.route.specs.Table.{Table}
-use Rattle.lab_nets.specs.NetsIn.{inputs, netsAt}
-use Rattle.lab_nets.specs.passes.Uses.{usesOf, markCells}
+use Rattle.lab_nets.specs.NetsIn.{inputs, netsAt, netsIn}
+use Rattle.lab_nets.specs.passes.Uses.{netsWithin}
+use Rattle.lab_nets.proofs.Cells.{cells-lower, cells-counted}
 use Rattle.lab_rules.specs.Rules.{MAX_NETS_IN}
 use Rattle.lab_rules.specs.passes.Counts.{noCounts, countsAll, brokenBy, resultFrom}
 use Rattle.lab_rules.specs.declared.Counts.{Counts}
 use Rattle.sheet.specs.Checks.{NONE}
 use Rattle.lab_pass.specs.passes.Links.{walk}
 use Rattle.lab_pass.specs.passes.Results.{markedIf, resultOf, Tells}
-use Rattle.lab_pass.proofs.Taking.{no-marks}
-
--- ---- marks
-abbrev ones : List ℕ → ℕ
-ones l = length (filterb (eqb 1) l)
-
-one-more : (b : Bool) (x : ℕ) (l : List ℕ) → (length l ≤ length (cond b (x ∷ l) l)) × (length (cond b (x ∷ l) l) ≤ suc (length l))
-one-more true x l = (omega arith, omega arith)
-one-more false x l = (omega arith, omega arith)
-
-same-front : (b : Bool) (x d : ℕ) (l m : List ℕ) → length l ≤ d + length m → length (cond b (x ∷ l) l) ≤ d + length (cond b (x ∷ m) m)
-same-front true x d l m h = omega arith
-same-front false x d l m h = h
-
-set-most : (l : List ℕ) (i v : ℕ) → ones (set l i v) ≤ 1 + ones l
-set-most [] i v = omega arith
-set-most (x ∷ l) zero v = omega (arith, one-more (eqb 1 v) v (filterb (eqb 1) l) .1, one-more (eqb 1 x) x (filterb (eqb 1) l) .0)
-set-most (x ∷ l) (suc i) v = same-front (eqb 1 x) x 1 (filterb (eqb 1) (set l i v)) (filterb (eqb 1) l) (set-most l i v)
-
-set-driven : (l : List ℕ) (i : ℕ) → ones (set l i 2) ≤ 0 + ones l
-set-driven [] i = omega arith
-set-driven (x ∷ l) zero = omega (arith, one-more (eqb 1 x) x (filterb (eqb 1) l) .0)
-set-driven (x ∷ l) (suc i) = same-front (eqb 1 x) x 0 (filterb (eqb 1) (set l i 2)) (filterb (eqb 1) l) (set-driven l i)
-
-read-most : (m : List ℕ) (n : ℕ) → readMarks (markRead m n) ≤ 1 + readMarks m
-unfolding readMarks markRead
-read-most m n = by-test (eqb (getD m n 0) 0) (λ e. rw e (set-most m n 1)) (λ e. rw e (omega arith))
-
-driven-most : (m : List ℕ) (n : ℕ) → readMarks (markDriven m n) ≤ readMarks m
-unfolding readMarks markDriven
-driven-most m n = omega (arith, set-driven m n)
-
-marks-most : (m : List ℕ) (us : List Use) → readMarks (markAll m us) ≤ length (netsRead us) + readMarks m
-unfolding markAll
-marks-most m [] = omega arith
-marks-most m (reads n ∷ us) = omega (arith, marks-most (markRead m n) us, read-most m n)
-marks-most m (drives n ∷ us) = omega (arith, marks-most (markDriven m n) us, driven-most m n)
 
 -- ---- the reads of cells
 inputs-most : (c : Record) → length (inputs c) ≤ 7
@@ -74,41 +42,65 @@ inputs-most Malformed = omega arith
 nets-most : (c : Record) → length (netsAt (inputs c)) ≤ 7
 nets-most c = rw (length-map (filterb isNet (inputs c)) netOf) (omega (arith, filter-length isNet (inputs c), inputs-most c))
 
-reads-then : (xs ys : List ℕ) (us : List Use) → length (netsRead ((map reads xs ++ map drives ys) ++ us)) ≡ length xs + length (netsRead us)
-reads-then [] [] us = omega arith
-reads-then [] (y ∷ ys) us = reads-then [] ys us
-reads-then (x ∷ xs) ys us = omega (arith, reads-then xs ys us)
-
-reads-most : (cs : List Record) → length (netsRead (concatMap usesOf cs)) ≤ 7 * length cs
-unfolding usesOf
+reads-most : (cs : List Record) → length (concatMap (λ c. netsAt (inputs c)) cs) ≤ 7 * length cs
 reads-most [] = omega arith
-reads-most (c ∷ cs) = omega (arith, reads-then (netsAt (inputs c)) (netsAt (outputs c)) (concatMap usesOf cs), nets-most c, reads-most cs)
+reads-most (c ∷ cs) =
+    rw (length-append (netsAt (inputs c)) (concatMap (λ c. netsAt (inputs c)) cs)) (omega (arith, nets-most c, reads-most cs))
+
+within-most : (cs : List Record) → length (netsWithin cs) ≤ 7 * length cs
+unfolding netsWithin netsIn
+within-most cs =
+    let read : List ℕ = concatMap (λ c. netsAt (inputs c)) cs in
+    let outside : ℕ → Bool = λ n. not (elemb n (concatMap (λ c. netsAt (outputs c)) cs)) in
+    omega (arith, filter-length (λ n. ltb n 1024) (filterb outside (rising read)), filter-length outside (rising read), distinct-length read, reads-most cs)
 
 -- ---- the result
 nets-few : (t : Table) (k : Counts) (n : ℕ) → n ≤ MAX_NETS_IN → resultFrom t k n ≡ resultFrom t k 0
 unfolding resultFrom brokenBy
 nets-few t k n h = rw (le-ltb MAX_NETS_IN n h)
 
-few-reads : (t : Table) (k : Counts) (z : List ℕ) (cs : List Record) → readMarks z ≡ 0 → length cs ≤ 5 → resultFrom t k (readMarks (markCells z cs)) ≡ resultFrom t k 0
-unfolding markCells
-few-reads t k z cs none h =
-    nets-few t k (readMarks (markAll z (concatMap usesOf cs))) (omega (arith, marks-most z (concatMap usesOf cs), reads-most cs))
-
 -- 64: a short list keeps it
 pub short-is : (t : Table) (get : ℕ → Record) (is : List ℕ) → length is ≤ 5 → resultFrom t (countsAll noCounts (map get is)) 0 ≡ resultOf t get is
 unfolding resultOf
 short-is t get is h =
     let cs = map get is in
-    sym (few-reads t (countsAll noCounts cs) (replicate 1024 0) cs (no-marks 1024) (rw (length-map is get) h))
+    sym (nets-few t (countsAll noCounts cs) (length (netsWithin cs)) (omega (arith, within-most cs, length-map is get)))
 
--- what a short list tells, and a longer one
-module _ (get : ℕ → Record) (is : List ℕ) (counts : Counts) (k : counts ≡ countsAll noCounts (map get is)) where
-  pub short-tells : (b : Bool) → b ≡ leb (length is) 5 → b ≡ true → Tells get is counts 0
-  short-tells b q h = record { told = λ t. rw k (short-is t get is (leb-true (length is) 5 (sym q ∙ h))) }
+-- up to the limit of 64 the number of nets makes no difference
+over-is : (t : Table) (k : Counts) (n : ℕ) → resultFrom t k (cond (ltb MAX_NETS_IN n) n 0) ≡ resultFrom t k n
+over-is t k n = by-test (ltb MAX_NETS_IN n) (λ e. rw e) (λ e. rw e (sym (nets-few t k n (ltb-false MAX_NETS_IN n e))))
 
-  pub long-tells : (marks : List ℕ) (m : ℕ) → marks ≡ markedIf true (replicate 1024 0) (map get is) → m ≡ readMarks marks → Tells get is counts m
-  unfolding resultOf markedIf
-  long-tells marks m q z = record { told = λ t. rw (k, z, q) }
+-- what a list tells: its nets are counted exactly if it is not short; and the marks are no higher than the LAB's
+module _ (get : ℕ → Record) (is : List ℕ) (counts : Counts) (k : counts ≡ countsAll noCounts (map get is))
+    (l : LabMarks) (up : l .read < l .driven) (m₀ : List ℕ) (low : Lower 1024 (l .read) m₀) (m : List ℕ) (nets : ℕ) where
+  abbrev Counted : Bool → Type 0
+  Counted b = marking m nets ≡ markedIf b l (marking m₀ 0) (map get is)
+
+  abbrev Told : Type 0
+  Told = ((t : Table) → resultFrom t counts nets ≡ resultOf t get is) × Lower 1024 (l .driven + 1) m
+
+  short-told : Counted false → length is ≤ 5 → Told
+  unfolding markedIf
+  short-told q h = (
+    λ t. rw (k, ap (λ (x : Marking). x .count) q) (short-is t get is h),
+    rw (ap (λ (x : Marking). x .marks) q) (lower-more 1024 (l .read) (l .driven + 1) m₀ (omega arith) low),
+  )
+
+  long-told : Counted true → Told
+  unfolding markedIf resultOf
+  long-told q =
+      let cs = map get is in (
+        λ t. rw (k, ap (λ (x : Marking). x .count) q, cells-counted l up m₀ low cs),
+        rw (ap (λ (x : Marking). x .marks) q) (cells-lower l up m₀ low cs),
+      )
+
+  list-told : (b : Bool) → b ≡ leb (length is) 5 → Counted (not b) → Told
+  list-told true e q = short-told q (leb-true (length is) 5 (sym e))
+  list-told false e q = long-told q
+
+  pub list-tells : (b : Bool) → b ≡ leb (length is) 5 → Counted (not b) → (over : ℕ) → over ≡ cond (ltb MAX_NETS_IN nets) nets 0
+      → Tells get is counts over × Lower 1024 (l .driven + 1) m
+  list-tells b e q over o = let g = list-told b e q in (record { told = λ t. rw o (over-is t counts nets) ∙ g .0 t }, g .1)
 
 -- ---- the loop
 -- the first k cells of the list are passed

@@ -1,3 +1,4 @@
+use distinct::LabMarks;
 use distinct::UpToTwo;
 use exercise::Record;
 use lab_rules::Counts;
@@ -7,15 +8,16 @@ use sheet::CellNumber;
 ghost use mathlib.Core.Path.{_≡_};
 ghost use mathlib.Core.Bool.{cond};
 ghost use mathlib.Core.List.{map};
-ghost use Prim.Native.Nat.{_<_};
+ghost use Prim.Native.Nat.{_+_, _<_};
 ghost use lib.ListN.{length, getD, set};
-ghost use lib.Dec.{leb};
+ghost use lib.Dec.{leb, ltb};
+ghost use Rattle.lab_rules.specs.Rules.{MAX_NETS_IN};
 ghost use Rattle.exercise.specs.passes.Known.{knownAt};
-ghost use Rattle.distinct.specs.passes.Marks.{markAll};
+ghost use Rattle.distinct.specs.passes.Marks.{marking, markAll, Lower};
 ghost use Rattle.lab_rules.specs.passes.Counts.{noCounts, countsAll, resultFrom};
 ghost use Rattle.lab_nets.specs.passes.Uses.{usesOf};
 ghost use Rattle.lab_pass.specs.passes.Links.{link, linkBelow, walk};
-ghost use Rattle.lab_pass.specs.passes.Results.{markedIf, sameCodes, sameCounts, sameCounted, Tells, resultAt, hasCells, lowestBroken, putRow, putRows};
+ghost use Rattle.lab_pass.specs.passes.Results.{marksOf, markedIf, sameCodes, sameCounts, sameCounted, Tells, resultAt, hasCells, lowestBroken, putRow, putRows};
 
 // The number of LABs.
 pub const LABS: u16 = 1024;
@@ -95,35 +97,49 @@ fn is_short(next: &[u16], start: u16) -> bool
     false
 }
 
-// Marks the nets that a cell reads and drives, where they are to be marked.
-fn mark_if(marking: bool, marks: &mut [u8; 1024], cell: Record)
-    ensures { λ _. ⌜ now (marks .exit) ≡ cond marking (markAll (now (marks .entry)) (usesOf cell)) (now (marks .entry)) ⌝ }
+// The two marks of a LAB, higher than those of the LABs below it.
+fn marks_of(lab: u16) -> LabMarks
+    requires { ⌜ lab < 1024 ⌝ }
+    ensures { λ r. ⌜ r ≡ marksOf lab ⌝ }
 {
-    if marking {
-        lab_nets::mark_cell(marks, cell);
+    LabMarks {
+        read: 2 * lab + 1,
+        driven: 2 * lab + 2,
     }
 }
 
-// The walk over the list that begins with a cell: counts its registers, and marks the nets of all its cells where they are to be marked.
+// Marks the nets that a cell reads and drives, where they are to be counted. Gives the count of nets marked as read.
+fn mark_if(counting: bool, marks: &mut [u16], lab: LabMarks, nets: u16, cell: Record) -> u16
+    ensures { λ r. ⌜ marking (now (marks .exit)) r ≡ cond counting (markAll lab (marking (now (marks .entry)) nets) (usesOf cell)) (marking (now (marks .entry)) nets) ⌝ }
+{
+    if counting {
+        return lab_nets::mark_cell(marks, lab, nets, cell);
+    }
+    nets
+}
+
+// The walk over the list that begins with a cell: counts its registers, and the nets in of all its cells where they are to be counted.
 fn count_cells(
     exercise: &[u8],
     next: &[u16],
     start: u16,
-    marking: bool,
-    marks: &mut [u8; 1024],
-) -> Counts
-    ensures counted { λ r. ⌜ r ≡ countsAll noCounts (map (knownAt (now (exercise .entry))) (walk (now (next .entry)) start 512)) ⌝ }
-    ensures marked { λ _. ⌜ now (marks .exit) ≡ markedIf marking (now (marks .entry)) (map (knownAt (now (exercise .entry))) (walk (now (next .entry)) start 512)) ⌝ }
+    counting: bool,
+    lab: LabMarks,
+    marks: &mut [u16],
+) -> Counted
+    ensures counted { λ r. ⌜ r .counts ≡ countsAll noCounts (map (knownAt (now (exercise .entry))) (walk (now (next .entry)) start 512)) ⌝ }
+    ensures marked { λ r. ⌜ marking (now (marks .exit)) (r .nets) ≡ markedIf counting lab (marking (now (marks .entry)) 0) (map (knownAt (now (exercise .entry))) (walk (now (next .entry)) start 512)) ⌝ }
 {
     let mut counts = Counts::none();
+    let mut nets: u16 = 0;
     let mut at = start;
     let mut k: usize = 0;
     while k < 512 {
         if next.len() <= at as usize {
-            return counts;
+            return Counted { counts, nets };
         }
         let cell = exercise::known_record_at(exercise, CellNumber(at));
-        mark_if(marking, marks, cell);
+        nets = mark_if(counting, marks, lab, nets, cell);
         at = entry(next, at as usize);
         k += 1;
         let Record::Register(_) = cell else {
@@ -131,21 +147,37 @@ fn count_cells(
         };
         counts = counts.with(cell);
     }
-    counts
+    Counted { counts, nets }
 }
 
-// The counts and the nets in of the list that begins with a cell. Five cells read 35 nets at the most and keep 64, so only a longer list needs the
-// marks, and a short one has 0 here; whatever the marks hold, they are room to work in.
-fn counted_from(exercise: &[u8], next: &[u16], start: u16, marks: &mut [u8; 1024]) -> Counted
-    ensures { λ r. ⌜ Tells (knownAt (now (exercise .entry))) (walk (now (next .entry)) start 512) (r .counts) (r .nets) ⌝ }
+// The nets in where they are too many for 64, otherwise 0: up to there their number makes no difference.
+fn too_many(nets: u16) -> u16
+    ensures { λ r. ⌜ r ≡ cond (ltb MAX_NETS_IN nets) nets 0 ⌝ }
 {
-    if is_short(next, start) {
-        let counts = count_cells(exercise, next, start, false, marks);
-        return Counted { counts, nets: 0 };
+    if lab_rules::MAX_NETS_IN < nets {
+        return nets;
     }
-    *marks = [0u8; 1024];
-    let counts = count_cells(exercise, next, start, true, marks);
-    let nets = distinct::count_read(marks);
+    0
+}
+
+// The counts and the nets in of the list that begins with a cell, 0 where it keeps 64. Five cells read 35 nets at the most, so only of a longer list the
+// nets are counted. All marks are lower than those of the LAB, and then no higher.
+fn counted_from(
+    exercise: &[u8],
+    next: &[u16],
+    start: u16,
+    lab: LabMarks,
+    marks: &mut [u16],
+) -> Counted
+    requires rising { ⌜ lab .read < lab .driven ⌝ }
+    requires lower { ⌜ Lower 1024 (lab .read) (now marks) ⌝ }
+    ensures told { λ r. ⌜ Tells (knownAt (now (exercise .entry))) (walk (now (next .entry)) start 512) (r .counts) (r .nets) ⌝ }
+    ensures kept { λ _. ⌜ Lower 1024 (lab .driven + 1) (now (marks .exit)) ⌝ }
+{
+    let counting = !is_short(next, start);
+    let counted = count_cells(exercise, next, start, counting, lab, marks);
+    let counts = counted.counts;
+    let nets = too_many(counted.nets);
     Counted { counts, nets }
 }
 
@@ -227,7 +259,7 @@ pub fn route_labs(
         counted: idle,
         result,
     };
-    let mut marks = [0u8; 1024];
+    let mut marks = [0u16; 1024];
     let mut lab: u16 = 0;
     while lab < LABS {
         let start = entry(first, lab as usize);
@@ -235,7 +267,7 @@ pub fn route_labs(
             lab += 1;
             continue;
         }
-        let counted = counted_from(exercise, next, start, &mut marks);
+        let counted = counted_from(exercise, next, start, marks_of(lab), &mut marks);
         if same_counted(counted, idle) {
             put_row(rows, lab, [255u8; 8]);
             lab += 1;

@@ -1,23 +1,23 @@
--- A LAB's cells, handed over one by one, leave the counts of all of them, and marks of which as many are read as nets enter the LAB.
+-- A LAB's cells, handed over one by one, leave the counts of all of them; and of fit cells all nets that enter have a mark.
 -- Assumes nothing.
 use Prim.Native.Nat.{ℕ, _<_}
-use mathlib.Core.Path.{_≡_, refl, _∙_}
-use mathlib.Core.Logic.{⊎-elim}
+use mathlib.Core.Path.{_≡_, refl, sym, _∙_}
+use mathlib.Core.Bool.{true, true≢false}
 use mathlib.Core.List.{List, [], _∷_, _++_}
 use native.Mathlib.Omega.{arith}
-use lib.ListN.{length, replicate}
-use Rattle.sheet.specs.Lists.{concatMap, filterb}
+use Rattle.sheet.specs.Lists.{filterb, elemb}
+use Rattle.sheet.proofs.Laws.{by-test}
 use Rattle.sheet.specs.Signal.{isNet, netOf}
 use Rattle.exercise.specs.declared.Record.{Record}
-use Rattle.distinct.specs.passes.Marks.{readMarks}
 use Rattle.distinct.specs.passes.UpToTwo.{withCode, withCodes}
 use Rattle.distinct.specs.declared.UpToTwo.{UpToTwo}
-use Rattle.distinct.proofs.Rising.{In, in-append, map-in, in-filter}
+use Rattle.distinct.proofs.Rising.{map-in, in-filter}
 use Rattle.distinct.proofs.Codes.{with-all}
-use Rattle.distinct.proofs.Nets.{in-elem}
+use Rattle.distinct.proofs.Nets.{elem-in, in-elem}
 use Rattle.lab_nets.specs.NetsIn.{inputs, netsAt, netsIn}
-use Rattle.lab_nets.specs.passes.Uses.{markCells}
-use Rattle.lab_nets.proofs.Cells.{nets-marked}
+use Rattle.lab_nets.specs.Marked.{readIn}
+use Rattle.lab_nets.specs.passes.Uses.{netsWithin}
+use Rattle.lab_nets.proofs.Cells.{all-within}
 use Rattle.lab_rules.specs.declared.Counts.{Counts}
 use Rattle.lab_rules.specs.Ports.{ena, clock, clockPair, clear, synchronous, needed, inLab}
 use Rattle.lab_rules.specs.passes.Counts.{noCounts, countsWith, countsAll, countsOf, AllFit}
@@ -49,16 +49,15 @@ unfolding countsOf
 counts-are cs = counts-from noCounts cs ∙ simp with-all
 
 -- ---- nets
-reads-low : (cs : List Record) → AllFit cs → (z : ℕ) → In z (concatMap (λ c. netsAt (inputs c)) cs) → z < 1024
-reads-low [] fit z m = absurd m
-reads-low (c ∷ cs) fit z m =
-    ⊎-elim
-    (λ n. let g = map-in netOf z (filterb isNet (inputs c)) n in
+pub reads-low : (cs : List Record) → AllFit cs → (n : ℕ) → readIn cs n ≡ true → n < 1024
+reads-low [] fit n h = absurd (true≢false (sym h))
+reads-low (c ∷ cs) fit n h =
+    by-test (elemb n (netsAt (inputs c)))
+    (λ e. let g = map-in netOf n (filterb isNet (inputs c)) (elem-in n (netsAt (inputs c)) e) in
     let small = fit .0 .small-inputs (g .0) (in-elem (g .0) (inputs c) (in-filter isNet (g .0) (inputs c) (g .1) .0)) in
     omega (arith, g .2))
-    (reads-low cs (fit .1) z)
-    (in-append z (netsAt (inputs c)) (concatMap (λ c. netsAt (inputs c)) cs) m)
+    (λ e. reads-low cs (fit .1) n (rw e at h))
 
 -- 64
-pub nets-are : (cs : List Record) → AllFit cs → readMarks (markCells (replicate 1024 0) cs) ≡ length (netsIn cs)
-nets-are cs fit = nets-marked cs (reads-low cs fit)
+pub nets-are : (cs : List Record) → AllFit cs → netsWithin cs ≡ netsIn cs
+nets-are cs fit = all-within cs (reads-low cs fit)

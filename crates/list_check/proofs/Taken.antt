@@ -16,15 +16,17 @@ use Rattle.exercise.specs.declared.RegisterCell.{RegisterCell}
 use Rattle.exercise.specs.declared.Record.{Record}
 use Rattle.exercise.specs.declared.Record.the-variants.{Register}
 use Rattle.sheet.proofs.Laws.{by-test, or-parts}
-use Rattle.distinct.specs.passes.Marks.{markAll, readMarks}
+use Rattle.distinct.specs.passes.Marks.{Marking, marking, markAll}
+use Rattle.distinct.proofs.Nets.{lower-none}
 use Rattle.route.specs.Table.{Table, eightRows}
 use Rattle.settings.specs.Settings.{settingsChecks, settingsNumber, tableOf}
 use Rattle.settings.proofs.Laws.{same-table}
 use Rattle.sheet.proofs.Checks.{in-turn}
-use Rattle.lab_nets.specs.passes.Uses.{markCells}
-use Rattle.lab_nets.proofs.Cells.{marks-cons}
+use Rattle.lab_nets.specs.passes.Uses.{usesOf, markCells, netsWithin}
+use Rattle.lab_nets.proofs.Cells.{marks-cons, cells-counted}
 use Rattle.lab_rules.specs.Rules.{labChecks, labNumber, labResult}
-use Rattle.lab_rules.specs.passes.Counts.{noCounts, countsAll, refused, resultFrom, Fit, AllFit}
+use Rattle.lab_rules.specs.declared.Counts.{Counts}
+use Rattle.lab_rules.specs.passes.Counts.{noCounts, countsWith, countsAll, refused, resultFrom, Fit, AllFit}
 use Rattle.lab_rules.proofs.Folded.{counts-are, nets-are}
 use Rattle.lab_rules.proofs.Result.{result-is}
 use Rattle.lab_rules.proofs.Served.{same-result}
@@ -34,7 +36,7 @@ use Rattle.judge.proofs.FitCells.{small-input, small-output, input-of-all, enab
 use Rattle.exercise.specs.Record.{Cell, recordBytes}
 use Rattle.list_check.specs.declared.ListState.{ListState}
 use Rattle.list_check.specs.ListCheck.{recordFrom, unfit, noList, listNumber, listVerdict}
-use Rattle.list_check.specs.passes.State.{noState, stateWith, stateAll, finished}
+use Rattle.list_check.specs.passes.State.{Kept, kept, noState, listMarks, keptWith, keptAll, finished}
 
 -- ---- what is kept
 and-true : (a : Bool) → a ≡ (a && true)
@@ -46,24 +48,34 @@ and-not true true v = refl
 and-not true false v = refl
 and-not false u v = refl
 
-fit-all : (s : ListState) (cs : List Cell) → stateAll s cs .fit ≡ (s .fit && not (anyb unfit (map recordFrom cs)))
-unfolding stateAll stateWith
-fit-all s [] = and-true (s .fit)
-fit-all s (c ∷ cs) = fit-all (stateWith s c) cs ∙ and-not (s .fit) (unfit (recordFrom c)) (anyb unfit (map recordFrom cs))
+fit-all : (k : Kept) (cs : List Cell) → keptAll k cs .state .fit ≡ (k .state .fit && not (anyb unfit (map recordFrom cs)))
+unfolding keptAll keptWith
+fit-all k [] = and-true (k .state .fit)
+fit-all k (c ∷ cs) = fit-all (keptWith k c) cs ∙ and-not (k .state .fit) (unfit (recordFrom c)) (anyb unfit (map recordFrom cs))
 
-counts-all : (s : ListState) (cs : List Cell) → stateAll s cs .counts ≡ countsAll (s .counts) (map recordFrom cs)
-unfolding stateAll stateWith countsAll
-counts-all s [] = refl
-counts-all s (c ∷ cs) = counts-all (stateWith s c) cs
+counts-all : (k : Kept) (cs : List Cell) → keptAll k cs .state .counts ≡ countsAll (k .state .counts) (map recordFrom cs)
+unfolding keptAll keptWith countsAll
+counts-all k [] = refl
+counts-all k (c ∷ cs) = counts-all (keptWith k c) cs
 
-marks-none : (m : List ℕ) → m ≡ markCells m []
+marks-none : (m : Marking) → m ≡ markCells listMarks m []
 unfolding markCells markAll
 marks-none m = refl
 
-marks-all : (s : ListState) (cs : List Cell) → stateAll s cs .marks ≡ markCells (s .marks) (map recordFrom cs)
-unfolding stateAll stateWith
-marks-all s [] = marks-none (s .marks)
-marks-all s (c ∷ cs) = marks-all (stateWith s c) cs ∙ sym (marks-cons (s .marks) (recordFrom c) (map recordFrom cs))
+abbrev marksOf : Kept → Marking
+marksOf k = marking (k .marks) (k .state .nets)
+
+marks-all : (k : Kept) (cs : List Cell) → marksOf (keptAll k cs) ≡ markCells listMarks (marksOf k) (map recordFrom cs)
+unfolding keptAll keptWith
+marks-all k [] = marks-none (marksOf k)
+marks-all k (c ∷ cs) = marks-all (keptWith k c) cs ∙ sym (marks-cons listMarks (marksOf k) (recordFrom c) (map recordFrom cs))
+
+-- one record more: what it says, then what the marks, the counts and the fitness are
+pub one-kept : (k : Kept) (c : Cell) (d : Record) → d ≡ recordFrom c → (marks : List ℕ) (nets : ℕ) → marking marks nets ≡ markAll listMarks (marksOf k) (usesOf d)
+    → (counts : Counts) → counts ≡ countsWith (k .state .counts) d → (bad : Bool) → bad ≡ unfit d
+    → kept (record { fit = k .state .fit && not bad; counts = counts; nets = nets }) marks ≡ keptWith k c
+unfolding keptWith
+one-kept k c d e marks nets m counts n bad u = rw (ap (λ (x : Marking). x .marks) m, ap (λ (x : Marking). x .count) m, n, u, e)
 
 -- ---- fit records
 register-kept : (r : RegisterCell) → unfit (Register r) ≡ false → firstNumber (registerChecks r) ≡ 0
@@ -127,7 +139,7 @@ unfolding finished
 unset-70s s k h n = rw (h, ne-eqb (settingsNumber s) 0 n)
 
 fit-result : (s : List ℕ) (k : ListState) → k .fit ≡ true → settingsNumber s ≡ 0
-    → finished s k ≡ resultFrom (eightRows (tableOf s)) (k .counts) (readMarks (k .marks))
+    → finished s k ≡ resultFrom (eightRows (tableOf s)) (k .counts) (k .nets)
 unfolding finished
 fit-result s k h z = rw (h, z)
 
@@ -135,49 +147,55 @@ no-list-unfit : (cs : List Cell) (b : Bool) → ltb 32 (length cs) ≡ false →
 unfolding noList
 no-list-unfit cs b h e = rw (h, e)
 
-began-fit : (cs : List Cell) (b : Bool) → anyb unfit (map recordFrom cs) ≡ b → stateAll noState cs .fit ≡ not b
-unfolding noState
-began-fit cs b e = fit-all noState cs ∙ rw e
+-- before the first record
+abbrev began : Kept
+began = kept noState (replicate 1024 0)
 
-began-counts : (cs : List Cell) → stateAll noState cs .counts ≡ countsAll noCounts (map recordFrom cs)
+began-fit : (cs : List Cell) (b : Bool) → anyb unfit (map recordFrom cs) ≡ b → keptAll began cs .state .fit ≡ not b
 unfolding noState
-began-counts cs = counts-all noState cs
+began-fit cs b e = fit-all began cs ∙ rw e
 
-began-marks : (cs : List Cell) → stateAll noState cs .marks ≡ markCells (replicate 1024 0) (map recordFrom cs)
+began-counts : (cs : List Cell) → keptAll began cs .state .counts ≡ countsAll noCounts (map recordFrom cs)
 unfolding noState
-began-marks cs = marks-all noState cs
+began-counts cs = counts-all began cs
 
-taken-is : (t : Table) (rs : List Record) → AllFit rs → resultFrom t (countsAll noCounts rs) (readMarks (markCells (replicate 1024 0) rs)) ≡ labResult t rs
+began-nets : (cs : List Cell) → keptAll began cs .state .nets ≡ length (netsWithin (map recordFrom cs))
+unfolding noState
+began-nets cs =
+    ap (λ (m : Marking). m .count) (marks-all began cs)
+    ∙ cells-counted listMarks (omega arith) (replicate 1024 0) (lower-none 1024 1 (omega arith)) (map recordFrom cs)
+
+taken-is : (t : Table) (rs : List Record) → AllFit rs → resultFrom t (countsAll noCounts rs) (length (netsWithin rs)) ≡ labResult t rs
 taken-is t rs fit = rw (counts-are rs, nets-are rs fit) (result-is t rs fit)
 
 -- 18, 70 to 75, and 60 to 65 of a list
-pub all-taken : (s : List ℕ) (cs : List Cell) → ltb 32 (length cs) ≡ false → finished s (stateAll noState cs) ≡ listVerdict s cs
+pub all-taken : (s : List ℕ) (cs : List Cell) → ltb 32 (length cs) ≡ false → finished s (keptAll began cs .state) ≡ listVerdict s cs
 all-taken s cs h =
-    let k = stateAll noState cs in
+    let k = keptAll began cs .state in
     by-test (anyb unfit (map recordFrom cs))
     (λ e. unfit-18 s k (began-fit cs true e) ∙ sym (list-refused s cs (no-list-unfit cs true h e)))
     (λ e. by-test (eqb (settingsNumber s) 0)
     (λ q. let z = eqb-true (settingsNumber s) 0 q in
     fit-result s k (began-fit cs false e) z
-    ∙ rw (began-counts cs, began-marks cs) (taken-is (eightRows (tableOf s)) (map recordFrom cs) (all-fit cs e))
+    ∙ rw (began-counts cs, began-nets cs) (taken-is (eightRows (tableOf s)) (map recordFrom cs) (all-fit cs e))
     ∙ same-result (eightRows (tableOf s)) (tableOf s) (same-table s z) (map recordFrom cs)
     ∙ sym (list-is-lab s (map recordFrom cs) cs refl (no-list-unfit cs false h e) z))
     (λ q. let n = eqb-false (settingsNumber s) 0 q in
     unset-70s s k (began-fit cs false e) n ∙ sym (list-unset s cs (no-list-unfit cs false h e) n)))
 
--- ---- the loop: the records from i on take the state to what all take the first one to
-pub record Taking (cs : List Cell) (k : ListState) (i : ℕ) : Type 0 where
+-- ---- the loop: the records from i on take what is kept to what all take the beginning to
+pub record Taking (cs : List Cell) (k : Kept) (i : ℕ) : Type 0 where
   pub within : i ≤ length cs
-  pub same : stateAll noState cs ≡ stateAll k (drop i cs)
+  pub same : keptAll began cs ≡ keptAll k (drop i cs)
 
-pub taking-starts : (cs : List Cell) (k : ListState) → k ≡ noState → Taking cs k 0
-taking-starts cs k e = record { within = omega arith; same = rw e }
+pub taking-starts : (cs : List Cell) (s : ListState) → s ≡ noState → Taking cs (kept s (replicate 1024 0)) 0
+taking-starts cs s e = record { within = omega arith; same = rw e }
 
-module _ (cs : List Cell) (k : ListState) (i : ℕ) (s : Taking cs k i) where
-  pub taking-goes : (next : ListState) → i < length cs → next ≡ stateWith k (getD cs i []) → Taking cs next (i + 1)
-  unfolding stateAll
+module _ (cs : List Cell) (k : Kept) (i : ℕ) (s : Taking cs k i) where
+  pub taking-goes : (next : Kept) → i < length cs → next ≡ keptWith k (getD cs i []) → Taking cs next (i + 1)
+  unfolding keptAll
   taking-goes next h e = record { within = omega arith; same = s .same ∙ rw (drop-cons cs i [] h, e, add-one) }
 
-  pub taking-ends : length cs ≤ i → stateAll noState cs ≡ k
-  unfolding stateAll
+  pub taking-ends : length cs ≤ i → keptAll began cs ≡ k
+  unfolding keptAll
   taking-ends h = let all : i ≡ length cs = omega (arith, s .within) in s .same ∙ rw (all, drop-length)

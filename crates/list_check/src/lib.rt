@@ -1,3 +1,4 @@
+use distinct::LabMarks;
 use exercise::Cell;
 use exercise::Record;
 use lab_rules::Counts;
@@ -6,13 +7,13 @@ ghost use mathlib.Core.Path.{_≡_};
 ghost use Rattle.exercise.specs.Record.{recordBytes};
 ghost use Rattle.lab_rules.specs.passes.Counts.{refused};
 ghost use Rattle.list_check.specs.ListCheck.{recordFrom, unfit, listVerdict};
-ghost use Rattle.list_check.specs.passes.State.{noState, stateWith, finished};
+ghost use Rattle.list_check.specs.passes.State.{kept, keptWith, noState, finished};
 
-// What is kept of a list's records: whether all were fit, what the LAB's rules count, and one mark a net.
+// What is kept of a list's records: whether all were fit, and what the LAB's rules count.
 pub struct ListState {
     pub fit: bool,
     pub counts: Counts,
-    pub marks: [u8; 1024],
+    pub nets: u16,
 }
 
 // The 24 bytes of a record.
@@ -73,20 +74,20 @@ fn start() -> ListState
     ListState {
         fit: true,
         counts: Counts::none(),
-        marks: [0u8; 1024],
+        nets: 0,
     }
 }
 
 // One record more.
-fn take_cell(state: ListState, cell: Cell) -> ListState
-    ensures { λ r. ⌜ r ≡ stateWith state cell ⌝ }
+fn take_cell(state: ListState, marks: &mut [u16], cell: Cell) -> ListState
+    ensures { λ r. ⌜ kept r (now (marks .exit)) ≡ keptWith (kept state (now (marks .entry))) cell ⌝ }
 {
     let decoded = record_from(cell);
-    let mut marks = state.marks;
-    lab_nets::mark_cell(&mut marks, decoded);
+    let lab = LabMarks { read: 1, driven: 2 };
+    let nets = lab_nets::mark_cell(marks, lab, state.nets, decoded);
     let counts = state.counts.with(decoded);
     let fit = state.fit & !is_unfit(decoded);
-    ListState { fit, counts, marks }
+    ListState { fit, counts, nets }
 }
 
 // A number with eight 255s.
@@ -110,12 +111,7 @@ fn finish(settings: &[u8], state: ListState) -> LabResult
     if number != 0 {
         return refusal(number);
     }
-    let marks = state.marks;
-    lab_rules::lab_result(
-        settings::entry_table(settings),
-        state.counts,
-        distinct::count_read(&marks),
-    )
+    lab_rules::lab_result(settings::entry_table(settings), state.counts, state.nets)
 }
 
 // The check of one LAB on a lent list of its cells, on the board of a settings sheet: 18 for over 32 of them or an unfit one, else 70 to 75 of the
@@ -128,9 +124,10 @@ pub fn check_list(settings: &[u8], cells: &[Cell]) -> LabResult
         return refusal(18);
     }
     let mut state = start();
+    let mut marks = [0u16; 1024];
     let mut i: usize = 0;
     while i < n {
-        state = take_cell(state, cells[i]);
+        state = take_cell(state, &mut marks, cells[i]);
         i += 1;
     }
     finish(settings, state)

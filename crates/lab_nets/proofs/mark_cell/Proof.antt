@@ -1,5 +1,4 @@
--- `lab_nets::mark_cell` meets its contract: each kind of cell has its function, and a malformed record has no ports.
--- Assumes nothing.
+-- Each kind of cell has its function, and a malformed record has no ports.
 use borrow.Author.Needs.{needs}
 use Rattle.lab_nets.proofs.Ports.{no-ports}
 use Rattle.lab_nets.proofs.mark_cell.Statement.{statement}
@@ -11,9 +10,11 @@ mark-cell-spec =
     (tie.spec
     (λ c. search needs)  -- enum-known-cell
     (λ c κs. search needs)  -- mark-combinational-requires
+    (λ c. search needs)  -- same-length
+    (λ c. let m = c .before .before in rw (m .before .before .before .cell .given .1) (m .mark-combinational .ensures))  -- returns
     (λ c. search needs)  -- enum-known-cell-2
     (λ c κs. search needs)  -- mark-register-requires
+    (λ c. search needs)  -- same-length-2
+    (λ c. let m = c .before .before in rw (m .before .before .before .cell2 .given .1) (m .mark-register .ensures))  -- returns-2
     (λ c. search needs)  -- enum-told
-    (λ c. rw (c .before .before .before .cell .given .1) (c .mark-combinational .ensures))  -- returns
-    (λ c. rw (c .before .before .before .cell2 .given .1) (c .mark-register .ensures))  -- returns-2
     (λ c. rw (c .enum-told .given .1, no-ports)))  -- returns-3

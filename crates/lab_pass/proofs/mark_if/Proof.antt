@@ -8,5 +8,6 @@ mark-if-spec =
     tie.close
     (tie.spec
     (λ c κs. search needs)  -- mark-cell-requires
-    (λ c. rw (c .before .before .if1 .taken) (c .mark-cell .ensures))  -- returns
-    (λ c. search needs))  -- returns-2
+    (λ c. search needs)  -- same-length
+    (λ c. let m = c .before .before in rw (m .before .before .if1 .taken) (m .mark-cell .ensures))  -- returns
+    (λ c. rw (c .if1 .left)))  -- returns-2

@@ -4,13 +4,14 @@ use Prim.Native.Nat.{ℕ, zero, suc, _+_, _*_}
 use mathlib.Core.Path.{_≡_}
 use mathlib.Core.Bool.{Bool, cond, not, _&&_}
 use mathlib.Core.List.{List, map}
-use lib.ListN.{length, getD, set, replicate}
+use lib.ListN.{length, getD, set}
 use lib.Dec.{eqb, ltb}
 use Rattle.sheet.specs.Lists.{firstFrom}
 use Rattle.exercise.specs.declared.Record.{Record}
-use Rattle.distinct.specs.passes.Marks.{readMarks}
+use Rattle.distinct.specs.declared.LabMarks.{LabMarks}
+use Rattle.distinct.specs.passes.Marks.{Marking}
 use Rattle.route.specs.Table.{Table}
-use Rattle.lab_nets.specs.passes.Uses.{markCells}
+use Rattle.lab_nets.specs.passes.Uses.{markCells, netsWithin}
 use Rattle.lab_rules.specs.passes.Counts.{noCounts, countsAll, resultFrom}
 use Rattle.lab_rules.specs.declared.LabResult.{LabResult}
 use Rattle.lab_rules.specs.declared.Counts.{Counts}
@@ -23,11 +24,15 @@ use Rattle.lab_pass.specs.declared.Counted.{Counted}
 -- the result of a LAB with these cells, handed over one by one
 unfoldable pub resultOf : Table → (ℕ → Record) → List ℕ → LabResult
 resultOf t cell is =
-    resultFrom t (countsAll noCounts (map cell is)) (readMarks (markCells (replicate 1024 0) (map cell is)))
+    resultFrom t (countsAll noCounts (map cell is)) (length (netsWithin (map cell is)))
+
+-- the two marks of LAB l
+unfoldable pub marksOf : ℕ → LabMarks
+marksOf l = record { read = 2 * l + 1; driven = 2 * l + 2 }
 
 -- the marks of cells, where they are wanted
-unfoldable pub markedIf : Bool → List ℕ → List Record → List ℕ
-markedIf b marks cs = cond b (markCells marks cs) marks
+unfoldable pub markedIf : Bool → LabMarks → Marking → List Record → Marking
+markedIf b l m cs = cond b (markCells l m cs) m
 
 -- the counts and the number of nets say of a list of cells, on any board, what the cells handed over one by one say
 pub record Tells (cell : ℕ → Record) (is : List ℕ) (k : Counts) (nets : ℕ) : Type 0 where

@@ -21,9 +21,9 @@ finish-spec =
     (stops _ _ _ (not-false _ (ne-by _ _ 0 (c .before .before .settings-number .ensures) (c .before .if2 .taken)))
     (c .refusal2 .ensures ∙ ap refused (c .before .before .settings-number .ensures))))  -- returns-2
     (λ c κs. search needs)  -- entry-table-requires
-    (λ c κs. search needs)  -- count-read-requires
     (λ c κs. search needs)  -- lab-result-requires
     (λ c.
-    passes _ _ _ (c .before .before .before .before .before .before .before .if1 .left)
-    (passes _ _ _ (not-true _ (eq-by _ _ 0 (c .before .before .before .before .before .before .settings-number .ensures) (c .before .before .before .before .before .if2 .left)))
-    (c .lab-result .ensures ∙ rw (c .before .before .before .entry-table .ensures, c .before .count-read .ensures)))))  -- returns-3
+    let n = c .before .before .before in
+    passes _ _ _ (n .before .if1 .left)
+    (passes _ _ _ (not-true _ (eq-by _ _ 0 (n .settings-number .ensures) (c .before .before .if2 .left)))
+    (c .lab-result .ensures ∙ rw (c .before .entry-table .ensures)))))  -- returns-3
