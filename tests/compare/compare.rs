@@ -8,6 +8,7 @@ mod faults;
 mod forms;
 mod generate;
 mod judge;
+mod nets;
 mod plain;
 mod proved;
 mod settings;
@@ -645,6 +646,8 @@ fn report_forms(seen: &forms::Counts) -> bool {
     missing |= rising("their needs, by entry", &seen.entries);
     missing |= report_sync("judge", &seen.lab_sync);
     missing |= report_sync("list check", &seen.list_sync);
+    missing |= report_nets("judge", &seen.lab_nets, nets::CASES.len());
+    missing |= report_nets("list check", &seen.list_nets, nets::OF_LISTS);
     missing || seen.judged == 0
 }
 
@@ -657,6 +660,16 @@ fn report_sync(who: &str, seen: &sync::Counts) -> bool {
     let breaks = by_name("  refused", &sync::BREAKS.map(|b| b.0), &seen.breaks);
     let kept = by_name("  legal", &sync::KEPT.map(|k| k.0), &seen.kept);
     breaks || kept || seen.pairs_only == 0
+}
+
+/// Rule 64 at its limit by one of the two, with the cases that it has.
+fn report_nets(who: &str, seen: &nets::Counts, cases: usize) -> bool {
+    println!("64 by the {who}, at the limit");
+    let names = nets::CASES.map(|c| c.0);
+    let line = |title, counts: &[u64]| by_name(title, &names[..cases], &counts[..cases]);
+    let refused = line("  39, refused", &seen.refused);
+    let legal = line("  38, legal", &seen.legal);
+    refused || legal
 }
 
 /// One line; gives whether one of the names did not occur.

@@ -2,6 +2,7 @@
 //! the Rust judge says of the same sheets.
 
 use crate::generate::*;
+use crate::nets;
 use crate::plain::{self, CellRecord, Settings, Step};
 use crate::proved;
 use crate::settings;
@@ -31,6 +32,10 @@ pub struct Counts {
     /// Rule 63 in all lists, and in the LABs of which the Rust judge says the same.
     pub list_sync: sync::Counts,
     pub lab_sync: sync::Counts,
+    /// Rule 64 in all lists, and in the LABs of legal answers and those that it
+    /// refuses.
+    pub list_nets: nets::Counts,
+    pub lab_nets: nets::Counts,
 }
 
 impl Counts {
@@ -47,6 +52,8 @@ impl Counts {
             entries: [0; settings::MOST],
             list_sync: sync::Counts::new(),
             lab_sync: sync::Counts::new(),
+            list_nets: nets::Counts::new(),
+            lab_nets: nets::Counts::new(),
         }
     }
 
@@ -224,6 +231,7 @@ pub fn list(
     }
     counts.lists[a.0 as usize] += 1;
     counts.list_sync.note(a.0, list);
+    counts.list_nets.note(a.0, list, &[]);
     Ok(a)
 }
 
@@ -254,6 +262,7 @@ pub fn labs(
     let mut labs: Vec<usize> = (0..cells.len()).map(lab_of).collect();
     labs.sort_unstable();
     labs.dedup();
+    let mut lower = Vec::new();
     for lab in labs {
         let own: Vec<CellRecord> = (0..cells.len())
             .filter(|&i| lab_of(i) == lab)
@@ -281,6 +290,10 @@ pub fn labs(
         }
         counts.judged += 1;
         counts.lab_sync.note(found, &own);
+        if number == 0 || found == 64 {
+            counts.lab_nets.note(found, &own, &lower);
+        }
+        lower.extend(own);
     }
     Ok(())
 }

@@ -641,8 +641,14 @@ fn build(rng: &mut Rng, board: &[u8], size: usize, labs: usize, chains: usize, w
         1 => rng.below(labs.len()),
         _ => labs.len() - 1,
     };
-    // Now and then the LAB that breaks a lower rule breaks 64 too.
-    let crowded = want == 64 || (want != 0 && want < 64 && rng.percent(10));
+    // Nets into that LAB, where they are set. Now and then one that breaks a lower
+    // rule breaks 64 too, and one that breaks none comes to its limit.
+    let nets = match want {
+        64 => Some(39),
+        0 => rng.percent(3).then_some(38),
+        1..=63 => rng.percent(10).then_some(39),
+        _ => None,
+    };
     let mut b = Builder::new(rng);
     for _ in 0..chains {
         let lab = b.rng.pick(&labs);
@@ -668,7 +674,7 @@ fn build(rng: &mut Rng, board: &[u8], size: usize, labs: usize, chains: usize, w
         if is_broken {
             registers = registers.max(c.spread());
         }
-        if is_broken && crowded {
+        if k == broken && nets.is_some() {
             combinational = combinational.max(b.rng.range(9, 16));
         }
         for j in 0..registers {
@@ -680,13 +686,32 @@ fn build(rng: &mut Rng, board: &[u8], size: usize, labs: usize, chains: usize, w
     }
     let mut sheets = b.finish();
     sheets.cells.truncate(512);
-    if crowded {
-        read_nets(rng, &mut sheets, labs[broken], 39);
+    if let Some(target) = nets {
+        read_nets(rng, &mut sheets, labs[broken], target);
     }
     sheets
 }
 
-/// Reads more nets in the LAB until it reads exactly `target` from outside.
+/// Nets of the lower LABs that any cell may read: those read there, not at cin, and
+/// those driven there, not by a cout.
+fn lower_nets(sheets: &Sheets, lab: usize) -> Vec<u16> {
+    let mut list = Vec::new();
+    for c in sheets.cells.iter().filter(|c| c.lab() < lab) {
+        let (inputs, output) = match c.kind {
+            REGISTER => (&c.s[..REGOUT], c.s[REGOUT]),
+            _ => (&c.s[..CIN], c.s[COMBOUT]),
+        };
+        list.extend(inputs.iter().map(|v| v & !1));
+        list.push(output);
+    }
+    list.retain(|&v| v >= net(0));
+    list.sort_unstable();
+    list.dedup();
+    list
+}
+
+/// Reads more nets in the LAB until it reads exactly `target` from outside, often
+/// nets of the lower LABs.
 fn read_nets(rng: &mut Rng, sheets: &mut Sheets, lab: usize, target: usize) {
     let mine: Vec<usize> = (0..sheets.cells.len())
         .filter(|&i| sheets.cells[i].lab() == lab)
@@ -716,11 +741,17 @@ fn read_nets(rng: &mut Rng, sheets: &mut Sheets, lab: usize, target: usize) {
         }
     }
     rng.shuffle(&mut ports);
-    // Ports that read nothing from outside go first.
-    ports.sort_by_key(|&(i, p)| {
-        let v = sheets.cells[i].s[p];
-        v >= 4 && !inside[v as usize / 2]
+    // Ports that read no net go first, then, or with them, those that read one from
+    // inside.
+    let kept = rng.percent(50) as u8;
+    ports.sort_by_key(|&(i, p)| match sheets.cells[i].s[p] {
+        0..=3 => 0,
+        v if inside[v as usize / 2] => kept,
+        _ => 2,
     });
+    let mut lower = lower_nets(sheets, lab);
+    lower.retain(|&v| !inside[v as usize / 2]);
+    rng.shuffle(&mut lower);
     for (i, p) in ports {
         let mut seen = vec![false; 1026];
         let mut read = 0;
@@ -738,7 +769,11 @@ fn read_nets(rng: &mut Rng, sheets: &mut Sheets, lab: usize, target: usize) {
         if read >= target {
             break;
         }
-        let v = sheets.fresh();
+        lower.retain(|&v| !seen[v as usize / 2]);
+        let v = match lower.pop() {
+            Some(v) if rng.percent(50) => v,
+            _ => sheets.fresh(),
+        };
         if v != 0 {
             let turned = sheets.cells[i].kind == COMBINATIONAL && rng.percent(40);
             sheets.cells[i].s[p] = v + turned as u16;

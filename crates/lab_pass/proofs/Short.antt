@@ -94,13 +94,11 @@ module _ (get : ℕ → Record) (is : List ℕ) (counts : Counts) (k : counts �
         rw (ap (λ (x : Marking). x .marks) q) (cells-lower l up m₀ low cs),
       )
 
-  list-told : (b : Bool) → b ≡ leb (length is) 5 → Counted (not b) → Told
-  list-told true e q = short-told q (leb-true (length is) 5 (sym e))
-  list-told false e q = long-told q
+  pub short-tells : (b : Bool) → b ≡ leb (length is) 5 → b ≡ true → Counted false → Tells get is counts nets × Lower 1024 (l .driven + 1) m
+  short-tells b e h q = let g = short-told q (leb-true (length is) 5 (sym e ∙ h)) in (record { told = g .0 }, g .1)
 
-  pub list-tells : (b : Bool) → b ≡ leb (length is) 5 → Counted (not b) → (over : ℕ) → over ≡ cond (ltb MAX_NETS_IN nets) nets 0
-      → Tells get is counts over × Lower 1024 (l .driven + 1) m
-  list-tells b e q over o = let g = list-told b e q in (record { told = λ t. rw o (over-is t counts nets) ∙ g .0 t }, g .1)
+  pub long-tells : Counted true → (over : ℕ) → over ≡ cond (ltb MAX_NETS_IN nets) nets 0 → Tells get is counts over × Lower 1024 (l .driven + 1) m
+  long-tells q over o = let g = long-told q in (record { told = λ t. rw o (over-is t counts nets) ∙ g .0 t }, g .1)
 
 -- ---- the loop
 -- the first k cells of the list are passed

@@ -174,8 +174,10 @@ fn counted_from(
     ensures told { λ r. ⌜ Tells (knownAt (now (exercise .entry))) (walk (now (next .entry)) start 512) (r .counts) (r .nets) ⌝ }
     ensures kept { λ _. ⌜ Lower 1024 (lab .driven + 1) (now (marks .exit)) ⌝ }
 {
-    let counting = !is_short(next, start);
-    let counted = count_cells(exercise, next, start, counting, lab, marks);
+    if is_short(next, start) {
+        return count_cells(exercise, next, start, false, lab, marks);
+    }
+    let counted = count_cells(exercise, next, start, true, lab, marks);
     let counts = counted.counts;
     let nets = too_many(counted.nets);
     Counted { counts, nets }
