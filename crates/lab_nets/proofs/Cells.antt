@@ -11,7 +11,7 @@ use borrow.Author.Tests.{lt-ltb}
 use Rattle.sheet.specs.Lists.{concatMap, filterb, anyb, elemb, below}
 use Rattle.exercise.specs.Record.{outputs}
 use Rattle.exercise.specs.declared.Record.{Record}
-use Rattle.sheet.proofs.Laws.{by-test, and-parts}
+use Rattle.sheet.proofs.Laws.{and-parts}
 use Rattle.sheet.proofs.Lists.{any-append}
 use Rattle.distinct.specs.Rising.{rising}
 use Rattle.distinct.specs.declared.LabMarks.{LabMarks}

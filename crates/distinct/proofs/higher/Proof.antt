@@ -1,5 +1,4 @@
 -- The test is the one of the contract.
-use borrow.Author.Needs.{needs}
 use borrow.Author.Tests.{lt-ltb, le-ltb}
 use Rattle.distinct.proofs.higher.Statement.{statement}
 use Rattle.distinct.proofs.higher.Tie as tie

@@ -1,5 +1,4 @@
 -- The test is the one of the contract.
-use borrow.Author.Needs.{needs}
 use borrow.Author.Tests.{lt-ltb, le-ltb}
 use Rattle.lab_rules.specs.Rules.{MAX_NETS_IN}
 use Rattle.lab_pass.proofs.too_many.Statement.{statement}
