@@ -2,7 +2,7 @@
 use Prim.Native.Nat.{ℕ, _+_, _<_}
 use mathlib.Core.Path.{_≡_, refl, sym, ap, _∙_}
 use mathlib.Core.Logic.{inl, inr}
-use mathlib.Core.Bool.{Bool, true, false, not, _&&_}
+use mathlib.Core.Bool.{Bool, true, not, _&&_}
 use mathlib.Core.List.{List, [], _∷_, _++_, map}
 use native.Mathlib.Omega.{arith}
 use lib.ListN.{length}
@@ -11,7 +11,7 @@ use borrow.Author.Tests.{lt-ltb}
 use Rattle.sheet.specs.Lists.{concatMap, filterb, anyb, elemb, below}
 use Rattle.exercise.specs.Record.{outputs}
 use Rattle.exercise.specs.declared.Record.{Record}
-use Rattle.sheet.proofs.Laws.{and-parts}
+use Rattle.sheet.proofs.Laws.{same-truth, and-parts}
 use Rattle.sheet.proofs.Lists.{any-append}
 use Rattle.distinct.specs.Rising.{rising}
 use Rattle.distinct.specs.declared.LabMarks.{LabMarks}
@@ -46,11 +46,6 @@ uses-all (c ∷ cs) =
 elem-any : (f : Record → List ℕ) (n : ℕ) (cs : List Record) → elemb n (concatMap f cs) ≡ anyb (λ c. elemb n (f c)) cs
 elem-any f n [] = refl
 elem-any f n (c ∷ cs) = any-append _ (f c) (concatMap f cs) ∙ rw (elem-any f n cs)
-
-same-truth : (a b : Bool) → (a ≡ true → b ≡ true) → (b ≡ true → a ≡ true) → a ≡ b
-same-truth true b f g = sym (f refl)
-same-truth false true f g = g refl
-same-truth false false f g = refl
 
 -- a net enters exactly if it is read, and driven by none of the cells
 pub net-enters : (cs : List Record) (n : ℕ) → elemb n (netsIn cs) ≡ (readIn cs n && not (drivenIn cs n))

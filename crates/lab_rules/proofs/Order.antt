@@ -1,15 +1,15 @@
 -- The order of a LAB's cells does not matter: each rule of 60 to 65 and the needs ask only which signals and nets the cells bring.
 -- Assumes nothing.
 use Prim.Native.Nat.{ℕ}
-use mathlib.Core.Path.{_≡_, refl, sym, ap, _∙_}
+use mathlib.Core.Path.{_≡_, refl, ap}
 use mathlib.Core.Logic.{inl, inr, ⊎-elim}
-use mathlib.Core.Bool.{Bool, not, true≢false}
+use mathlib.Core.Bool.{Bool, not}
 use mathlib.Core.List.{List, [], _∷_, _++_, List·Permᴰ, List·Permᴰ·nil, List·Permᴰ·cons, List·Permᴰ·swap, List·Permᴰ·trans, Permᴰ·symm}
 use Rattle.sheet.specs.Lists.{concatMap, filterb, elemb}
 use Rattle.exercise.specs.Record.{outputs}
 use Rattle.exercise.specs.declared.RegisterCell.{RegisterCell}
 use Rattle.exercise.specs.declared.Record.{Record}
-use Rattle.sheet.proofs.Laws.{by-test}
+use Rattle.sheet.proofs.Laws.{same-truth}
 use Rattle.distinct.specs.Rising.{rising}
 use Rattle.distinct.proofs.Rising.{In, in-append, append-in, rising-same}
 use Rattle.distinct.proofs.Nets.{elem-in, in-elem}
@@ -41,11 +41,9 @@ module _ {A : Type 0} (f : A → List ℕ) where
 
     elem-brought : (z : ℕ) → elemb z (concatMap f xs) ≡ elemb z (concatMap f ys)
     elem-brought z =
-        by-test (elemb z (concatMap f xs))
-        (λ q. q ∙ sym (in-elem z (concatMap f ys) (brings xs ys p z (elem-in z (concatMap f xs) q))))
-        (λ q. by-test (elemb z (concatMap f ys))
-        (λ r. absurd (true≢false (sym (in-elem z (concatMap f xs) (brings ys xs (Permᴰ·symm p) z (elem-in z (concatMap f ys) r))) ∙ q)))
-        (λ r. q ∙ sym r))
+        same-truth (elemb z (concatMap f xs)) (elemb z (concatMap f ys))
+        (λ q. in-elem z (concatMap f ys) (brings xs ys p z (elem-in z (concatMap f xs) q)))
+        (λ q. in-elem z (concatMap f xs) (brings ys xs (Permᴰ·symm p) z (elem-in z (concatMap f ys) q)))
 
 filter-same : (p q : ℕ → Bool) → ((z : ℕ) → p z ≡ q z) → (l : List ℕ) → filterb p l ≡ filterb q l
 filter-same p q h [] = refl
