@@ -1,4 +1,5 @@
-/* Nurimkkot: the judge of FPGA placement exercises, the check of one LAB, the readers and the writers of the sheets, for C.
+/* Nurimkkot: the judge of FPGA placement exercises, for one answer and for a class, the check of one LAB, the readers and the writers of
+ * the sheets, for C.
  *
  * Link with libc_api.a, which `rt staticlib c_api` writes to target/staticlib. The archive is for x86-64 Linux, position independent,
  * and calls nothing but memory functions of the C library (memcpy, memset and the like). docs/SHEETS.md has the layout of the sheets.
@@ -9,15 +10,16 @@
  *     (tests/c/null.c), not proved;
  *   - a pointer is aligned for its type. The records in a sheet need not be: copy them, and do not cast `exercise + 9` to
  *     struct nurimkkot_cell *;
- *   - what the call writes (route, numbers, *at, cell, place, sheet, entries, *length) overlaps nothing else that is passed to the same
- *     call. What it only reads may overlap.
+ *   - what the call writes (route, numbers, rows, *filled, *at, cell, place, sheet, entries, *length) overlaps nothing else that is
+ *     passed to the same call. What it only reads may overlap.
  * Nothing is asked of the contents: a sheet, a list and *at may hold anything, and a length, count or room may be any, also 0.
  *
  * Every call returns. It allocates nothing and keeps nothing, so threads may call at the same time, where none writes what another
  * uses.
  *
- * Stack: nurimkkot_judge uses less than 48 KiB, nurimkkot_write_exercise less than 16 KiB, nurimkkot_check_lab less than 8 KiB, every
- * other function less than 1 KiB. That is measured, not proved: tests/c/stack.c fails above these figures. */
+ * Stack: nurimkkot_judge and nurimkkot_mark_class use less than 48 KiB each, nurimkkot_write_exercise less than 16 KiB,
+ * nurimkkot_check_lab less than 8 KiB, every other function less than 1 KiB. That is measured, not proved: tests/c/stack.c fails above
+ * these figures. */
 #ifndef NURIMKKOT_H
 #define NURIMKKOT_H
 
@@ -79,6 +81,35 @@ void nurimkkot_judge(const uint8_t *settings, size_t settings_length,
                      const uint8_t *answer, size_t answer_length,
                      uint8_t *route, size_t route_length,
                      uint64_t numbers[NURIMKKOT_NUMBERS]);
+
+/* A row: what the judge says of one answer of a class. It has no culprit; nurimkkot_judge tells it for that answer alone. */
+struct nurimkkot_row {
+    uint32_t number;     /* the verdict, as NURIMKKOT_NUMBER; never 1 */
+    uint32_t cell;       /* the cell at fault, or NURIMKKOT_NONE */
+    uint32_t lab;        /* the LAB at fault, or NURIMKKOT_NONE */
+    uint32_t apprentice; /* the number on that answer sheet; 0 for verdicts 10 to 23 and 70 to 75 */
+};
+
+/* What a class sheet has at most: answers. */
+#define NURIMKKOT_MOST_ANSWERS 32
+
+/* Marks the answers on a class sheet, all to one exercise and on the board of one settings sheet. docs/SHEETS.md has the layout of a class
+ * sheet: a head and each answer sheet after its length.
+ *
+ * Returns 0 and fills one row for each answer, in the order of the answers, with the four numbers that nurimkkot_judge has for that
+ * answer and a route buffer of the right size; *filled is how many. The rows past the last answer stay, and no route is written. A
+ * settings sheet or an exercise that is refused shows in every row, never in what is returned.
+ *
+ * Or returns the first of these that applies, before it looks at the other sheets; then not one row is touched, and *filled is 0:
+ *   76  the class sheet has under 7 bytes, a wrong mark or version, more than 32 answers, or lengths that do not add up to its own;
+ *   77  `count`, the number of rows lent, is less than the number of answers.
+ * NURIMKKOT_MOST_ANSWERS rows are enough for every class sheet.
+ *
+ * What depends on settings and exercise alone is worked out once for all answers. */
+uint8_t nurimkkot_mark_class(const uint8_t *settings, size_t settings_length,
+                             const uint8_t *exercise, size_t exercise_length,
+                             const uint8_t *class_sheet, size_t class_length,
+                             struct nurimkkot_row *rows, size_t count, size_t *filled);
 
 /* A cell's record: kind (1 combinational, 2 register), flag and eleven signals, as nurimkkot_next_record gives them. On a little-endian
  * machine, such as x86-64, it has the very 24 bytes of the record in the exercise sheet. */

@@ -1,4 +1,5 @@
 use answer::Place;
+use class::Row;
 use exercise::Cell;
 use exercise::CombinationalCell;
 use exercise::RegisterCell;
@@ -14,6 +15,7 @@ ghost use Rattle.settings.specs.Settings.{settingsNumber, settingsNumbers, sett
 ghost use Rattle.settings.specs.House.{houseSettings};
 ghost use Rattle.judge.specs.Call.{call};
 ghost use Rattle.judge.specs.Judge.{judged, routed};
+ghost use Rattle.class.specs.Class.{marked, rowsAfter};
 ghost use Rattle.exercise.specs.Exercise.{exerciseNumber};
 ghost use Rattle.exercise.specs.Record.{combinationalValues, registerValues};
 ghost use Rattle.answer.specs.Answer.{openingNumber, placeValues};
@@ -79,6 +81,25 @@ pub extern "C" fn nurimkkot_judge(
     let start = wide(culprit.start);
     let size = wide(culprit.size);
     *numbers = [number, cell, lab, apprentice, sheet, start, size];
+}
+
+// Marks the answers of a class sheet on the board of a settings sheet, one row for each. Asks nothing of the contents: sheets of any bytes, any number of
+// rows. A refusal, 76 or 77, leaves the rows as they are, with none filled.
+#[no_mangle]
+pub extern "C" fn nurimkkot_mark_class(
+    settings: &[u8],
+    exercise: &[u8],
+    class_sheet: &[u8],
+    rows: &mut [Row],
+    filled: &mut usize,
+) -> u8
+    ensures number { λ r. ⌜ r ≡ marked (now («class_sheet» .entry)) (length (now (rows .entry))) .number ⌝ }
+    ensures verdicts { λ _. ⌜ now (rows .exit) ≡ rowsAfter (now (settings .entry)) (now (exercise .entry)) (now («class_sheet» .entry)) (now (rows .entry)) ⌝ }
+    ensures counted { λ _. ⌜ now (filled .exit) ≡ marked (now («class_sheet» .entry)) (length (now (rows .entry))) .filled ⌝ }
+{
+    let marked = class::mark_class(settings, exercise, class_sheet, rows);
+    *filled = marked.filled as usize;
+    marked.number
 }
 
 // The number of 10 to 14 that applies to an exercise, or 0.

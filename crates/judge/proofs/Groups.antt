@@ -6,7 +6,7 @@ use mathlib.Core.Path.{_≡_, refl, _∙_}
 use mathlib.Core.Bool.{cond, not}
 use mathlib.Core.List.{List, [], _∷_, _++_}
 use lib.Dec.{eqb, ltb}
-use borrow.Author.Tests.{ne-eqb}
+use borrow.Author.Tests.{eq-eqb, ne-eqb, eqb-true}
 use Rattle.sheet.specs.Lists.{Every, firstFrom}
 use Rattle.exercise.specs.Exercise.{cellCount, exerciseChecks, exerciseNumber}
 use Rattle.settings.specs.Settings.{settingsChecks, settingsNumber}
@@ -17,12 +17,14 @@ use Rattle.netlist.specs.Cells.{cellChecks, cellNumber}
 use Rattle.placing.specs.Places.{outOfRangeAt, placeTaken}
 use Rattle.sheet.specs.Checks.{NONE}
 use Rattle.judge.specs.declared.Finding.{Finding}
-use Rattle.judge.specs.Judge.{Check, finding, check, ofSheet, perCell, carryNotNext, roomChecks, settingsGroup, exerciseGroup, answerGroup, cellGroup, placeGroup, sheetChecks, firstBroken}
+use Rattle.judge.specs.Judge.{Check, finding, check, ofSheet, perCell, carryNotNext, roomChecks, settingsGroup, exerciseGroup, answerGroup, cellGroup, placeGroup, sheetChecks, checksTo51, firstBroken}
+use Rattle.judge.specs.Call.{Call}
 use Rattle.judge.specs.Numbers.{numbersTo51}
 use Rattle.judge.specs.passes.Stages.{numberedAs, numbered, atCell}
+use Rattle.judge.specs.passes.Preparing.{then}
 use borrow.Author.Needs.{needs}
 use Rattle.judge.proofs.Broken.{first-append, sheet-finds, run-finds, cells-find}
-use Rattle.judge.proofs.Numbers.{To51, known-numbered, every-append, run-known, room-known, settings-known, exercise-known, answer-known, cells-known, cell-numbered}
+use Rattle.judge.proofs.Numbers.{To51, known-numbered, every-append, run-known, settings-known, exercise-known, answer-known, cells-known, cell-numbered}
 
 -- ---- the parts of the groups: 10 to 14; 15; 16; 20 to 25; 26; 50; 51
 abbrev pub exerciseHead : List ℕ → List Check
@@ -46,9 +48,22 @@ sharedRun e a = perCell 50 (placeTaken e a) (cellNumbers e)
 abbrev pub carryRun : List ℕ → List ℕ → List Check
 carryRun e a = perCell 51 (carryNotNext e a) (cellNumbers e)
 
--- one finding, and the next one where it is nothing
-abbrev pub then : Finding → Finding → Finding
-then f g = cond (eqb (f .number) 0) g f
+-- ---- a finding, and the next where it is nothing
+pub then-stays : (f g : Finding) {r : Finding} → (f .number ≡ 0 → ⊥) → r ≡ f → r ≡ then f g
+then-stays f g h e = rw (ne-eqb (f .number) 0 h) e
+
+pub then-goes : (f g : Finding) {r : Finding} → f .number ≡ 0 → r ≡ g → r ≡ then f g
+then-goes f g h e = rw (eq-eqb (f .number) 0 h) e
+
+pub then-first : (f g : Finding) → then f g .number ≡ 0 → f .number ≡ 0
+then-first f g h =
+    by-test (eqb (f .number) 0) (λ t. eqb-true (f .number) 0 t) (λ t. rw t at h)
+
+pub then-second : (f g : Finding) → then f g .number ≡ 0 → g .number ≡ 0
+then-second f g h = let z = then-first f g h in rw (eq-eqb (f .number) 0 z) at h
+
+then-assoc : (f g h : Finding) → then f (then g h) ≡ then (then f g) h
+then-assoc f g h = by-test (eqb (f .number) 0) (λ b. rw b) (λ b. rw b (rw b))
 
 -- of two lists in turn, where all numbers of the first are known
 in-turn : (xs ys : List Check) → Every To51 xs → firstBroken (xs ++ ys) ≡ then (firstBroken xs) (firstBroken ys)
@@ -116,23 +131,35 @@ unfolding cellGroup
 cells-places-find e a = in-turn (cellGroup e) (placeGroup e a) (cells-known e)
 
 -- 70 to 75
-settings-finds : (s : List ℕ) → firstBroken (settingsGroup s) ≡ finding (settingsNumber s) NONE NONE
+pub settings-finds : (s : List ℕ) → firstBroken (settingsGroup s) ≡ finding (settingsNumber s) NONE NONE
 unfolding settingsGroup settingsNumber
 settings-finds s = sheet-finds (settingsChecks s)
 
--- 1, and 70 to 75
-pub call-finds : (s : List ℕ) (r : ℕ) → firstBroken (roomChecks r ++ settingsGroup s) ≡ cond (not (eqb r 8192)) (finding 1 NONE NONE) (finding (settingsNumber s) NONE NONE)
-unfolding roomChecks
-call-finds s r = rw (settings-finds s)
+-- 70 to 75, then 10 to 16
+pub early-finds : (s e : List ℕ) → firstBroken (settingsGroup s ++ exerciseGroup e) ≡ then (firstBroken (settingsGroup s)) (firstBroken (exerciseGroup e))
+early-finds s e = in-turn (settingsGroup s) (exerciseGroup e) (settings-known s)
 
-call-known : (s : List ℕ) (r : ℕ) → Every To51 (roomChecks r ++ settingsGroup s)
-call-known s r = every-append To51 (roomChecks r) (settingsGroup s) (room-known r) (settings-known s)
+-- these, then 30 to 44
+pub fixed-finds : (s e : List ℕ) → firstBroken ((settingsGroup s ++ exerciseGroup e) ++ cellGroup e)
+    ≡ then (firstBroken (settingsGroup s ++ exerciseGroup e)) (firstBroken (cellGroup e))
+fixed-finds s e =
+    in-turn (settingsGroup s ++ exerciseGroup e) (cellGroup e)
+    (every-append To51 (settingsGroup s) (exerciseGroup e) (settings-known s) (group-known e))
+
+-- 10 to 51 and 70 to 75
+sheets-find : (s e a : List ℕ) → firstBroken (settingsGroup s ++ sheetChecks e a)
+    ≡ then (firstBroken (settingsGroup s ++ exerciseGroup e))
+    (then (firstBroken (answerGroup e a)) (then (firstBroken (cellGroup e)) (firstBroken (placeGroup e a))))
+unfolding sheetChecks
+sheets-find s e a =
+    in-turn (settingsGroup s) (exerciseGroup e ++ (answerGroup e a ++ (cellGroup e ++ placeGroup e a))) (settings-known s)
+    ∙ rw (in-turn (exerciseGroup e) (answerGroup e a ++ (cellGroup e ++ placeGroup e a)) (group-known e), in-turn (answerGroup e a) (cellGroup e ++ placeGroup e a) (answer-known e a), cells-places-find e a, early-finds s e)
+    (then-assoc (firstBroken (settingsGroup s)) (firstBroken (exerciseGroup e)) _)
 
 -- 1 to 51
-pub to-51-finds : (s e a : List ℕ) (r : ℕ) → firstBroken (roomChecks r ++ (settingsGroup s ++ sheetChecks e a))
-    ≡ then (firstBroken (roomChecks r ++ settingsGroup s))
-    (then (firstBroken (exerciseGroup e)) (then (firstBroken (answerGroup e a)) (firstBroken (cellGroup e ++ placeGroup e a))))
-unfolding sheetChecks roomChecks
-to-51-finds s e a r =
-    in-turn (roomChecks r ++ settingsGroup s) (sheetChecks e a) (call-known s r)
-    ∙ rw (in-turn (exerciseGroup e) (answerGroup e a ++ (cellGroup e ++ placeGroup e a)) (group-known e), in-turn (answerGroup e a) (cellGroup e ++ placeGroup e a) (answer-known e a))
+pub to-51-finds : (c : Call) → firstBroken (checksTo51 c)
+    ≡ cond (not (eqb (c .room) 8192)) (finding 1 NONE NONE)
+    (then (firstBroken (settingsGroup (c .settings) ++ exerciseGroup (c .exercise)))
+    (then (firstBroken (answerGroup (c .exercise) (c .answer))) (then (firstBroken (cellGroup (c .exercise))) (firstBroken (placeGroup (c .exercise) (c .answer))))))
+unfolding checksTo51 roomChecks
+to-51-finds c = rw (sheets-find (c .settings) (c .exercise) (c .answer))

@@ -20,7 +20,6 @@ use Rattle.lab_rules.specs.declared.LabResult.{LabResult}
 use Rattle.lab_rules.proofs.Served.{same-result}
 use Rattle.tables.specs.Records.{cell}
 use Rattle.placing.specs.Places.{labAt}
-use Rattle.lab_pass.specs.passes.Links.{Links, linkBelow}
 use Rattle.lab_pass.specs.Members.{members}
 use Rattle.lab_pass.specs.passes.Results.{resultAt, hasCells, putRows}
 use Rattle.lab_pass.proofs.Linked.{walk-members}
@@ -31,6 +30,7 @@ use Rattle.sheet.specs.Checks.{NONE}
 use Rattle.judge.specs.Call.{Call, inForce}
 use Rattle.judge.specs.Judge.{finding, labCells, labGroup, routeBytes, firstBroken}
 use Rattle.judge.specs.passes.Stages.{numberedAs, numberedLab}
+use Rattle.judge.specs.passes.Preparing.{linked}
 use Rattle.judge.proofs.Broken.{labs-find}
 use Rattle.judge.proofs.Numbers.{lab-numbered}
 use Rattle.judge.proofs.Numbering.{numbered-same, numbered-none}
@@ -47,10 +47,6 @@ map-same f g p i zero h = refl
 map-same f g p i (suc k) h =
     let rest = map-same f g p (suc i) k (λ j b. h j (omega arith)) in
     by-test (p i) (λ t. rw (t, h i (omega arith), rest)) (λ t. rw (t, rest))
-
--- the lists by LAB of the answer
-abbrev pub linked : List ℕ → ℕ → Links
-linked a n = linkBelow a (record { first = replicate 1024 NONE; next = replicate 512 NONE }) n
 
 -- `u`: the table that the code has, whose entries serve what those in force do
 module _ (c : Call) (s : Sound (c .exercise)) (fits : (l : ℕ) → AllFit (labCells c l)) (u : Table) (served : SameServed u (inForce c)) where

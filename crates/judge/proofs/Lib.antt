@@ -18,4 +18,5 @@ pub mod Demand2
 pub mod Demand3
 pub mod AsBefore
 pub mod Steps
+pub mod Preparing
 pub mod Ring

@@ -6,7 +6,6 @@ use mathlib.Core.Bool.{false, cond, not, _&&_, and-assoc}
 use mathlib.Core.List.{List}
 use lib.ListN.{replicate}
 use lib.Dec.{eqb, ltb}
-use borrow.Author.Tests.{eqb-true, eq-eqb}
 use Rattle.sheet.specs.Lists.{firstFrom}
 use Rattle.sheet.specs.Signal.{isNet, isInverted}
 use Rattle.exercise.specs.Exercise.{netCount, cellCount, exerciseNumber}
@@ -31,7 +30,7 @@ use Rattle.judge.specs.Judge.{finding, legal, standsApart, carryNotNext,
 use Rattle.judge.specs.passes.Stages.{numbered, atCell, placedBy}
 use Rattle.sheet.proofs.First.{first-below, none-below}
 use Rattle.judge.proofs.Numbering.{numbered-same}
-use Rattle.judge.proofs.Groups.{then, exercise-finds, cells-finds, places-finds}
+use Rattle.judge.proofs.Groups.{then-first, then-second, exercise-finds, cells-finds, places-finds}
 
 -- what 13, 15 and 16 say, as far as the tables need it
 pub record Sound (e : List ℕ) : Type 0 where
@@ -76,13 +75,6 @@ module _ (e a : List ℕ) (s : Sound e) where
       rw (drivers-same (knownAt e) (cell e) (replicate 1024 NONE) (cellCount e) (s .known), same) (sym (places-finds e a))
 
 -- ---- what passing the stages says
-pub then-first : (f g : Finding) → then f g .number ≡ 0 → f .number ≡ 0
-then-first f g h =
-    by-test (eqb (f .number) 0) (λ t. eqb-true (f .number) 0 t) (λ t. rw t at h)
-
-pub then-second : (f g : Finding) → then f g .number ≡ 0 → g .number ≡ 0
-then-second f g h = let z = then-first f g h in rw (eq-eqb (f .number) 0 z) at h
-
 -- a run whose number is not 0 and that finds nothing came to its end
 run-passed : (n i k : ℕ) (g : Finding) → (n ≡ 0 → ⊥) → cond (ltb i k) (finding n i NONE) g .number ≡ 0 → (ltb i k ≡ false) × (g .number ≡ 0)
 run-passed n i k g d h = by-test (ltb i k) (λ t. absurd (d (rw t at h))) (λ t. (t, rw t at h))

@@ -1,20 +1,23 @@
+use route::EntryTable;
 use sheet::CellNumber;
 pub use sheet::NONE;
 ghost use mathlib.Core.Path.{_≡_};
 ghost use mathlib.Core.Bool.{cond};
 ghost use mathlib.Core.List.{_++_};
 ghost use Prim.Native.Nat.{min};
-ghost use lib.ListN.{length};
+ghost use lib.ListN.{length, replicate};
 ghost use lib.Dec.{eqb, ltb};
 ghost use Rattle.sheet.specs.Lists.{elemb};
 ghost use Rattle.sheet.specs.Bytes.{beginsAt};
-ghost use Rattle.exercise.specs.Exercise.{recordStart};
+ghost use Rattle.exercise.specs.Exercise.{cellCount, recordStart};
 ghost use Rattle.exercise.specs.passes.Known.{knownAt};
 ghost use Rattle.answer.specs.Answer.{placeStart};
 ghost use Rattle.judge.specs.Call.{call};
-ghost use Rattle.judge.specs.Judge.{finding, legal, ofExercise, ofAnswer, roomChecks, settingsGroup, exerciseGroup, answerGroup, cellGroup, placeGroup, sheetChecks, labGroup, checksTo51, firstBroken, apprenticeOf, lowestIn, culpritOf, verdictOf, judged, bytesOf, addressOf, routeBytes, routed, numbersOf};
+ghost use Rattle.judge.specs.Judge.{finding, legal, ofExercise, ofAnswer, settingsGroup, exerciseGroup, answerGroup, cellGroup, checks, firstBroken, apprenticeOf, lowestIn, culpritOf, verdictOf, judged, bytesOf, addressOf, routeBytes, routed, numbersOf};
 ghost use Rattle.judge.specs.Numbers.{faultOf};
 ghost use Rattle.judge.specs.passes.Stages.{numbered, placedBy};
+ghost use Rattle.judge.specs.passes.Preparing.{preparedFor, driversFor, foundTo51, foundInLabs, rowsOfLabs, foundFrom};
+ghost use Rattle.tables.specs.passes.Tables.{driversBelow};
 ghost use Rattle.sheet.specs.Checks.{NONE};
 ghost use Rattle.netlist.specs.passes.Numbers.{numberAt};
 
@@ -73,6 +76,12 @@ pub struct Finding {
     pub number: u8,
     pub cell: u16,
     pub lab: u16,
+}
+
+// What a settings sheet and an exercise alone say of every answer: what 70 to 75 and 10 to 16 find, and what these and 30 to 44 find.
+pub struct Prepared {
+    pub early: Finding,
+    pub fixed: Finding,
 }
 
 // A part of the exercise or of the answer.
@@ -196,50 +205,111 @@ fn place_finding(exercise: &[u8], answer: &[u8], cells: u16, drivers: &[u16]) ->
     )
 }
 
-// 30 to 51, of an exercise that passes 10 to 16.
-fn cells_finding(exercise: &[u8], answer: &[u8]) -> Finding
-    requires { ⌜ firstBroken (exerciseGroup (now exercise)) .number ≡ 0 ⌝ }
-    ensures { λ r. ⌜ r ≡ firstBroken (cellGroup (now (exercise .entry)) ++ placeGroup (now (exercise .entry)) (now (answer .entry))) ⌝ }
+// 70 to 75.
+fn settings_finding(settings: &[u8]) -> Finding
+    ensures { λ r. ⌜ r ≡ firstBroken (settingsGroup (now (settings .entry))) ⌝ }
+{
+    plain(settings::settings_number(settings))
+}
+
+// 70 to 75, then 10 to 16.
+fn early_finding(settings: &[u8], exercise: &[u8]) -> Finding
+    ensures { λ r. ⌜ r ≡ firstBroken (settingsGroup (now (settings .entry)) ++ exerciseGroup (now (exercise .entry))) ⌝ }
+{
+    let f = settings_finding(settings);
+    if f.number != 0 {
+        return f;
+    }
+    exercise_finding(exercise)
+}
+
+// 30 to 44, of an exercise that passes 10 to 16, with the table of drivers for 51.
+fn cells_finding(exercise: &[u8], drivers: &mut [u16]) -> Finding
+    requires passed { ⌜ firstBroken (exerciseGroup (now exercise)) .number ≡ 0 ⌝ }
+    requires blank { ⌜ now drivers ≡ replicate 1024 NONE ⌝ }
+    ensures found { λ r. ⌜ r ≡ firstBroken (cellGroup (now (exercise .entry))) ⌝ }
+    ensures filled { λ _. ⌜ now (drivers .exit) ≡ driversBelow (knownAt (now (exercise .entry))) (replicate 1024 NONE) (cellCount (now (exercise .entry))) ⌝ }
 {
     let cells = exercise::cell_count(exercise);
     let mut reads = [0u8; 1024];
     let mut readers = [NONE; 1024];
-    let mut drivers = [NONE; 1024];
-    tables::fill_tables(exercise, cells, &mut reads, &mut readers, &mut drivers);
-    let f = cell_finding(exercise, cells, &reads, &readers, &drivers);
+    tables::fill_tables(exercise, cells, &mut reads, &mut readers, drivers);
+    cell_finding(exercise, cells, &reads, &readers, drivers)
+}
+
+// Prepares a settings sheet and an exercise for any number of answers. The table of drivers is written whole.
+pub fn prepare(settings: &[u8], exercise: &[u8], drivers: &mut [u16; 1024]) -> Prepared
+    ensures made { λ r. ⌜ r ≡ preparedFor (now (settings .entry)) (now (exercise .entry)) ⌝ }
+    ensures filled { λ _. ⌜ now (drivers .exit) ≡ driversFor (now (settings .entry)) (now (exercise .entry)) ⌝ }
+{
+    *drivers = [NONE; 1024];
+    let early = early_finding(settings, exercise);
+    if early.number != 0 {
+        return Prepared {
+            early,
+            fixed: early,
+        };
+    }
+    let fixed = cells_finding(exercise, drivers);
+    Prepared { early, fixed }
+}
+
+// 10 to 51 and 70 to 75 of an answer, from what was prepared.
+fn finding_to_51(prepared: Prepared, exercise: &[u8], drivers: &[u16], answer: &[u8]) -> Finding
+    ensures { λ r. ⌜ r ≡ foundTo51 prepared (now (drivers .entry)) (now (exercise .entry)) (now (answer .entry)) ⌝ }
+{
+    let early = prepared.early;
+    if early.number != 0 {
+        return early;
+    }
+    let f = answer_finding(exercise, answer);
     if f.number != 0 {
         return f;
     }
-    place_finding(exercise, answer, cells, &drivers)
-}
-
-// 1, and 70 to 75.
-fn call_finding(settings: &[u8], room: usize) -> Finding
-    ensures { λ r. ⌜ r ≡ firstBroken (roomChecks room ++ settingsGroup (now (settings .entry))) ⌝ }
-{
-    if room != ROUTE_SIZE {
-        return plain(1);
+    let fixed = prepared.fixed;
+    if fixed.number != 0 {
+        return fixed;
     }
-    plain(settings::settings_number(settings))
+    let cells = exercise::cell_count(exercise);
+    place_finding(exercise, answer, cells, drivers)
 }
 
-// 1 to 51, with 70 to 75 after 1.
-fn finding_to_51(settings: &[u8], exercise: &[u8], answer: &[u8], room: usize) -> Finding
-    ensures { λ r. ⌜ r ≡ firstBroken (roomChecks room ++ (settingsGroup (now (settings .entry)) ++ sheetChecks (now (exercise .entry)) (now (answer .entry)))) ⌝ }
+// 60 to 65. The route bytes of the occupied LABs below the first broken one are put into the rows.
+fn lab_finding(table: EntryTable, exercise: &[u8], answer: &[u8], rows: &mut [u8; 8192]) -> Finding
+    ensures found { λ r. ⌜ r ≡ foundInLabs table (now (exercise .entry)) (now (answer .entry)) ⌝ }
+    ensures written { λ _. ⌜ now (rows .exit) ≡ rowsOfLabs table (now (exercise .entry)) (now (answer .entry)) (now (rows .entry)) ⌝ }
 {
-    let f = call_finding(settings, room);
+    let cells = exercise::cell_count(exercise);
+    let mut first = [NONE; 1024];
+    let mut next = [NONE; 512];
+    lab_pass::link_cells(answer, cells, &mut first, &mut next);
+    let found = lab_pass::route_labs(table, exercise, &first, &next, rows);
+    if found.lab < lab_pass::LABS {
+        return Finding {
+            number: found.number,
+            cell: NONE,
+            lab: found.lab,
+        };
+    }
+    plain(0)
+}
+
+// What the judge finds in an answer, from the entry table and what was prepared for its exercise. No route is written.
+pub fn judge_prepared(
+    table: EntryTable,
+    prepared: Prepared,
+    exercise: &[u8],
+    drivers: &[u16],
+    answer: &[u8],
+) -> Finding
+    ensures { λ r. ⌜ r ≡ foundFrom table prepared (now (drivers .entry)) (now (exercise .entry)) (now (answer .entry)) ⌝ }
+{
+    let f = finding_to_51(prepared, exercise, drivers, answer);
     if f.number != 0 {
         return f;
     }
-    let g = exercise_finding(exercise);
-    if g.number != 0 {
-        return g;
-    }
-    let h = answer_finding(exercise, answer);
-    if h.number != 0 {
-        return h;
-    }
-    cells_finding(exercise, answer)
+    let mut rows = [255u8; 8192];
+    lab_finding(table, exercise, answer, &mut rows)
 }
 
 // Copies the rows into the route buffer.
@@ -254,28 +324,34 @@ fn copy(rows: &[u8], route: &mut [u8])
     }
 }
 
-// 60 to 65, of sheets that pass 1 to 51; where none is broken, the routes are written.
-fn judge_labs(settings: &[u8], exercise: &[u8], answer: &[u8], route: &mut [u8]) -> Finding
-    requires { ⌜ firstBroken (checksTo51 (call (now settings) (now exercise) (now answer) (length (now route)))) .number ≡ 0 ⌝ }
-    ensures found { λ r. ⌜ r ≡ firstBroken (labGroup (call (now (settings .entry)) (now (exercise .entry)) (now (answer .entry)) (length (now (route .entry))))) ⌝ }
-    ensures written { λ r. ⌜ now (route .exit) ≡ cond (eqb (r .number) 0) (routeBytes (call (now (settings .entry)) (now (exercise .entry)) (now (answer .entry)) (length (now (route .entry))))) (now (route .entry)) ⌝ }
+// 60 to 65; where none is broken, the routes are written.
+fn judge_labs(table: EntryTable, exercise: &[u8], answer: &[u8], route: &mut [u8]) -> Finding
+    requires { ⌜ length (now route) ≡ 8192 ⌝ }
+    ensures found { λ r. ⌜ r ≡ foundInLabs table (now (exercise .entry)) (now (answer .entry)) ⌝ }
+    ensures written { λ r. ⌜ now (route .exit) ≡ cond (eqb (r .number) 0) (rowsOfLabs table (now (exercise .entry)) (now (answer .entry)) (replicate 8192 255)) (now (route .entry)) ⌝ }
 {
-    let table = settings::entry_table(settings);
-    let cells = exercise::cell_count(exercise);
-    let mut first = [NONE; 1024];
-    let mut next = [NONE; 512];
-    lab_pass::link_cells(answer, cells, &mut first, &mut next);
     let mut rows = [255u8; 8192];
-    let found = lab_pass::route_labs(table, exercise, &first, &next, &mut rows);
-    if found.lab < lab_pass::LABS {
-        return Finding {
-            number: found.number,
-            cell: NONE,
-            lab: found.lab,
-        };
+    let found = lab_finding(table, exercise, answer, &mut rows);
+    if found.number != 0 {
+        return found;
     }
     copy(&rows, route);
-    plain(0)
+    found
+}
+
+// What the first broken check finds, with a route buffer of the right size; where none is broken, the routes are written.
+fn finding_of(settings: &[u8], exercise: &[u8], answer: &[u8], route: &mut [u8]) -> Finding
+    requires { ⌜ length (now route) ≡ 8192 ⌝ }
+    ensures found { λ r. ⌜ r ≡ firstBroken (checks (call (now (settings .entry)) (now (exercise .entry)) (now (answer .entry)) (length (now (route .entry))))) ⌝ }
+    ensures written { λ r. ⌜ now (route .exit) ≡ cond (eqb (r .number) 0) (routeBytes (call (now (settings .entry)) (now (exercise .entry)) (now (answer .entry)) (length (now (route .entry))))) (now (route .entry)) ⌝ }
+{
+    let mut drivers = [NONE; 1024];
+    let prepared = prepare(settings, exercise, &mut drivers);
+    let f = finding_to_51(prepared, exercise, &drivers, answer);
+    if f.number != 0 {
+        return f;
+    }
+    judge_labs(settings::entry_table(settings), exercise, answer, route)
 }
 
 // Whether a number is in a list.
@@ -293,7 +369,7 @@ fn is_among(number: u8, list: &[u8]) -> bool
 }
 
 // The apprentice: 0 for 1 to 23 and 70 to 75, else the answer sheet's.
-fn apprentice_for(answer: &[u8], number: u8) -> u32
+pub fn apprentice_for(answer: &[u8], number: u8) -> u32
     ensures { λ r. ⌜ r ≡ apprenticeOf (now (answer .entry)) number ⌝ }
 {
     if is_among(number, &NAMELESS_NUMBERS) {
@@ -419,12 +495,11 @@ pub fn judge_sheets(settings: &[u8], exercise: &[u8], answer: &[u8], route: &mut
     ensures verdict { λ r. ⌜ r ≡ judged (call (now (settings .entry)) (now (exercise .entry)) (now (answer .entry)) (length (now (route .entry)))) ⌝ }
     ensures routes { λ r. ⌜ now (route .exit) ≡ routed (call (now (settings .entry)) (now (exercise .entry)) (now (answer .entry)) (length (now (route .entry)))) (now (route .entry)) ⌝ }
 {
-    let f = finding_to_51(settings, exercise, answer, route.len());
-    if f.number != 0 {
-        return verdict_of(exercise, answer, f);
+    if route.len() != ROUTE_SIZE {
+        return verdict_of(exercise, answer, plain(1));
     }
-    let g = judge_labs(settings, exercise, answer, route);
-    verdict_of(exercise, answer, g)
+    let f = finding_of(settings, exercise, answer, route);
+    verdict_of(exercise, answer, f)
 }
 
 // The part of the sheets that a Part names.
@@ -440,13 +515,14 @@ fn part_of<'a>(exercise: &'a [u8], answer: &'a [u8], p: Part) -> &'a [u8]
     sheet::part(exercise, start, size)
 }
 
-fn wide8(n: u8) -> u32
+// A number in 32 bits.
+pub fn wide8(n: u8) -> u32
     ensures { λ r. ⌜ r ≡ n ⌝ }
 {
     n as u32
 }
 
-fn wide16(n: u16) -> u32
+pub fn wide16(n: u16) -> u32
     ensures { λ r. ⌜ r ≡ n ⌝ }
 {
     n as u32

@@ -111,6 +111,13 @@ module _ (e : List ℕ) (n : ℕ) (single : (i : ℕ) → i < n → doubleDriver
       absurd (true≢false (sym before ∙ twice-not (codeOf k) (drivenBelow e j) (driven (cell e j)) (single j l) (drives-code e j k t))))
       (λ a. a)
 
+-- the table of drivers keeps its length
+pub drivers-length : (f : ℕ → Record) (t : List ℕ) (n : ℕ) → length (driversBelow f t n) ≡ length t
+unfolding driversBelow
+drivers-length f t zero = refl
+drivers-length f t (suc n) =
+    rw (with-driver (driversBelow f t n) n (f n)) (placed-length (driversBelow f t n) (coutOf (f n)) n ∙ drivers-length f t n)
+
 -- the tables of a sheet, after the cells below n
 abbrev pub drivers : List ℕ → ℕ → ℕ → List ℕ
 drivers e m n = driversBelow (cell e) (replicate m NONE) n

@@ -1,6 +1,9 @@
--- The finding of 1 to 51 where there is one, else that of the LABs; the route is touched only in the latter.
+-- 1 where the route buffer has another length, otherwise what the first broken check finds; the route is touched only in the latter case.
 use Rattle.judge.specs.Call.{call}
-use Rattle.judge.proofs.Steps.{passed-to-51, judge-refused, judge-done}
+use Rattle.judge.specs.Judge.{verdictOf}
+use Rattle.judge.specs.declared.Finding.{Finding}
+use Rattle.judge.proofs.Preparing.{judge-room, judge-done}
+use mathlib.Core.Path.{ap, _∙_}
 use lib.ListN.{length}
 use denote.Ref.{now}
 use borrow.Author.Needs.{needs}
@@ -9,31 +12,26 @@ use Rattle.judge.proofs.judge_sheets.Tie as tie
 
 returns : tie.Need-returns
 returns c =
-    let s = c .before .before .before .before .before .before .before .before .args in
-    let f = c .before .before .before .finding-to-51 in
-    judge-refused (call (now (s .settings)) (now (s .exercise)) (now (s .answer)) (length (now (s .route)))) (now (s .route)) (f .result) (f .ensures) (c .verdict-of .result) (c .before .if1 .taken) (c .verdict-of .ensures)
+    let i = c .before .before in
+    let s = i .before .before .before .before .before .args in
+    judge-room (call (now (s .settings)) (now (s .exercise)) (now (s .answer)) (length (now (s .route)))) (now (s .route)) _ (i .if1 .taken)
+    (c .verdict-of .ensures ∙ ap (verdictOf (now (s .exercise)) (now (s .answer))) (c .before .plain .ensures))
 
 returns-2 : tie.Need-returns-2
 returns-2 c =
-    let s = c .before .before .before .before .before .before .before .before .before .before .before .before .args in
-    let f = c .before .before .before .before .before .before .before .finding-to-51 in
-    let g = c .before .before .before .judge-labs in
-    judge-done (call (now (s .settings)) (now (s .exercise)) (now (s .answer)) (length (now (s .route)))) (now (s .route)) (f .result) (f .ensures) (c .verdict-of2 .result) (g .result) (g .last .1 .1 .1 .0) (c .before .before .before .before .before .if1 .left) (g .ensures .0) (g .ensures .1) (c .verdict-of2 .ensures)
-
-judge-labs-requires : tie.Need-judge-labs-requires
-judge-labs-requires c κs =
-    let s = c .before .before .before .before .before .before .before .before .args in
-    let f = c .before .before .before .finding-to-51 in
-    passed-to-51 (call (now (s .settings)) (now (s .exercise)) (now (s .answer)) (length (now (s .route)))) (now (s .route)) (f .result) (f .ensures) (c .before .if1 .left)
+    let f = c .before .before .before in
+    let s = f .before .before .before .before .before .before .before .args in
+    judge-done (call (now (s .settings)) (now (s .exercise)) (now (s .answer)) (length (now (s .route)))) (now (s .route)) _ _ _ (f .finding-of .ensures .0) (f .finding-of .ensures .1)
+    (c .verdict-of2 .ensures)
 
 pub judge-sheets-spec : {M : Type 1} → statement M
 judge-sheets-spec =
     tie.close
     (tie.spec
-    (λ c κs. search needs)  -- finding-to-51-requires
+    (λ c κs. search needs)  -- plain-requires
     (λ c κs. search needs)  -- verdict-of-requires
     returns
-    judge-labs-requires
+    (λ c κs. search needs)  -- finding-of-requires
     (λ c κs. search needs)  -- verdict-of-requires-2
     (λ c. search needs)  -- same-length
     returns-2)
