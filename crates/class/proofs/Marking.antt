@@ -22,7 +22,7 @@ use Rattle.judge.specs.Judge.{judged, verdictOf, numbersOf, apprenticeOf}
 use Rattle.judge.specs.passes.Preparing.{preparedFor, driversFor, foundFrom}
 use Rattle.judge.proofs.Preparing.{prepared-serves}
 use Rattle.class.specs.declared.Marked.{Marked}
-use Rattle.class.specs.Class.{answerCount, startOf, answerOf, wrongLengths, classChecks, refusal, marked, rowOf, rowsOf, rowsAfter}
+use Rattle.class.specs.Class.{answerCount, startOf, answerOf, answersOn, wrongLengths, classChecks, refusal, marked, rowOf, rowsOf, rowsAfter}
 use Rattle.class.specs.passes.Rows.{rowOn, rowFrom}
 
 -- ---- after i answers the walk stands where the length of answer i does
@@ -110,7 +110,8 @@ row-judged : (s e a : List ℕ) → rowFrom (eightRows (tableOf s)) (preparedFor
 unfolding rowFrom judged verdictOf
 row-judged s e a = ap (rowOn a) (prepared-serves s e a 8192 refl)
 
-rows-judged : (s e k : List ℕ) (is : List ℕ) → map (λ i. rowFrom (eightRows (tableOf s)) (preparedFor s e) (driversFor s e) e (answerOf k i)) is ≡ map (rowOf s e k) is
+rows-judged : (s e k : List ℕ) (is : List ℕ)
+    → map (λ i. rowFrom (eightRows (tableOf s)) (preparedFor s e) (driversFor s e) e (answerOf k i)) is ≡ map (rowOf s e) (map (answerOf k) is)
 unfolding rowOf
 rows-judged s e k [] = refl
 rows-judged s e k (i ∷ is) = rw (row-judged s e (answerOf k i), rows-judged s e k is)
@@ -126,17 +127,20 @@ module _ (s e k : List ℕ) (lent : List (List ℕ)) (n : ℕ) (x : n ≡ refusa
   unfolding refusal
   enough h = ltb-false (length lent) (answerCount k) (all-held (classChecks k (length lent)) refl (sym x ∙ h) .1 .1 .1 .1 .1 .0)
 
+  rows-count : length (rowsOf s e k) ≡ answerCount k
+  unfolding rowsOf answersOn
+  rows-count = length-map (map (answerOf k) (below (answerCount k))) (rowOf s e) ∙ rows-length (answerOf k) (answerCount k)
+
   rows-are : n ≡ 0 → sets lent 0 (rowsOf s e k) ≡ rowsOf s e k ++ drop (length (rowsOf s e k)) lent
-  unfolding rowsOf
   rows-are h =
       let none : 0 + length (rowsOf s e k) ≡ length (rowsOf s e k) = omega arith in
-      sets-eq (rowsOf s e k) lent 0 (omega (arith, enough h, rows-length (rowOf s e k) (answerCount k)))
+      sets-eq (rowsOf s e k) lent 0 (omega (arith, enough h, rows-count))
       ∙ ap (λ (n : ℕ). rowsOf s e k ++ drop n lent) none
 
   pub class-marked : (t : Table) (p : Prepared) (ds : List ℕ) (count : ℕ) (after : List (List ℕ)) → n ≡ 0 → t ≡ eightRows (tableOf s) → p ≡ preparedFor s e → ds ≡ driversFor s e → count ≡ answerCount k
       → after ≡ sets lent 0 (map (λ i. rowFrom t p ds e (answerOf k i)) (below count))
       → (_≡_ {A = Marked} (record { number = 0; filled = count }) (marked k (length lent))) × (after ≡ rowsAfter s e k lent)
-  unfolding marked rowsAfter rowsOf
+  unfolding marked rowsAfter rowsOf answersOn
   class-marked t p ds count after h table made filled c w = (
     rw (← x, h, c),
     rw (← x, h) (w ∙ rw (table, made, filled, c) (ap (λ (rs : List (List ℕ)). sets lent 0 rs) (rows-judged s e k (below (answerCount k))) ∙ rows-are h)),

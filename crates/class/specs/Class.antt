@@ -31,6 +31,10 @@ startOf k (suc i) = let at = startOf k i in at + 2 + u16At k at
 unfoldable pub answerOf : List ℕ → ℕ → List ℕ
 answerOf k i = let at = startOf k i in partAt k (at + 2) (u16At k at)
 
+-- the answers, in order
+unfoldable pub answersOn : List ℕ → List (List ℕ)
+answersOn k = map (answerOf k) (below (answerCount k))
+
 -- "whose lengths don't add up": the last answer does not end where the sheet does. No start lies before the one before it, so a length or an answer that
 -- runs over the end is among these
 unfoldable pub wrongLengths : List ℕ → Bool
@@ -57,12 +61,12 @@ marked k rows = record { number = refusal k rows; filled = cond (eqb (refusal k 
 
 -- ---- the rows: "one verdict row (no culprit) per answer comes out, equal to what single calls would say with a route buffer of the right size, in order"
 
--- number, cell, LAB and apprentice of the judge's own verdict on answer i
-unfoldable pub rowOf : List ℕ → List ℕ → List ℕ → ℕ → List ℕ
-rowOf s e k i = numbersOf (judged (call s e (answerOf k i) 8192))
+-- number, cell, LAB and apprentice of the judge's own verdict on the answer `a`
+unfoldable pub rowOf : List ℕ → List ℕ → List ℕ → List ℕ
+rowOf s e a = numbersOf (judged (call s e a 8192))
 
 unfoldable pub rowsOf : List ℕ → List ℕ → List ℕ → List (List ℕ)
-rowsOf s e k = map (rowOf s e k) (below (answerCount k))
+rowsOf s e k = map (rowOf s e) (answersOn k)
 
 -- THE LENT ROWS AT EXIT: the answers' rows, and "spare rows stay"; after a refusal "the lent rows are then unchanged"
 unfoldable pub rowsAfter : List ℕ → List ℕ → List ℕ → List (List ℕ) → List (List ℕ)

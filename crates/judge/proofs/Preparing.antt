@@ -99,12 +99,16 @@ module _ (s e : List ℕ) (early : Finding) (x : early ≡ firstBroken (settings
   unfolding driversFor
   prepare-goes fixed ds h f d = (prepared-is fixed (then-goes early (firstBroken (cellGroup e)) h f), rw early-in (rw (eq-eqb (early .number) 0 h) d))
 
--- the table of drivers is as long as it was lent
-pub drivers-size : (s e ds : List ℕ) → ds ≡ driversFor s e → 1024 ≡ length ds
-unfolding driversFor
-drivers-size s e ds h =
-    sym (rw h (by-test (eqb (earlyIn s e .number) 0)
-    (λ b. rw b (drivers-length (knownAt e) (replicate 1024 NONE) (cellCount e) ∙ length-replicate {A = ℕ} 1024 NONE)) (λ b. rw b (length-replicate {A = ℕ} 1024 NONE))))
+-- ---- what was found in the cells, otherwise 50 and 51
+module _ (fixed : Finding) (ds e a : List ℕ) where
+  pub placed-stays : (fixed .number ≡ 0 → ⊥) → fixed ≡ then fixed (placedBy ds (knownAt e) (cellCount e) e a)
+  placed-stays h = then-stays fixed _ h refl
+
+  pub placed-goes : (cells : ℕ) {r : Finding} → fixed .number ≡ 0 → cells ≡ cellCount e → r ≡ placedBy ds (knownAt e) cells e a
+      → r ≡ then fixed (placedBy ds (knownAt e) (cellCount e) e a)
+  placed-goes cells h c q = then-goes fixed _ h (q ∙ rw c)
+
+pub ruleset placed-steps = (placed-stays, placed-goes)
 
 -- ---- 10 to 51 and 70 to 75 of an answer
 module _ (p : Prepared) (ds e a : List ℕ) where
@@ -117,18 +121,45 @@ module _ (p : Prepared) (ds e a : List ℕ) where
     unfolding foundTo51
     found-answer h = then-goes (p .early) _ none (then-stays (firstBroken (answerGroup e a)) _ (λ z. h (ap numberIn x ∙ z)) x)
 
-    module _ (kept : f .number ≡ 0) where
-      past-answer : {r : Finding} → r ≡ then (p .fixed) (placedBy ds (knownAt e) (cellCount e) e a) → r ≡ foundTo51 p ds e a
-      unfolding foundTo51
-      past-answer q = then-goes (p .early) _ none (then-goes (firstBroken (answerGroup e a)) _ (ap numberIn (sym x) ∙ kept) q)
+    pub found-placed : {r : Finding} → f .number ≡ 0 → r ≡ then (p .fixed) (placedBy ds (knownAt e) (cellCount e) e a) → r ≡ foundTo51 p ds e a
+    unfolding foundTo51
+    found-placed kept q = then-goes (p .early) _ none (then-goes (firstBroken (answerGroup e a)) _ (ap numberIn (sym x) ∙ kept) q)
 
-      pub found-fixed : (p .fixed .number ≡ 0 → ⊥) → p .fixed ≡ foundTo51 p ds e a
-      found-fixed h = past-answer (then-stays (p .fixed) _ h refl)
+pub ruleset to-51-steps = (found-early, found-answer, found-placed)
 
-      pub found-placed : (cells : ℕ) {r : Finding} → p .fixed .number ≡ 0 → cells ≡ cellCount e → r ≡ placedBy ds (knownAt e) cells e a → r ≡ foundTo51 p ds e a
-      found-placed cells h c q = past-answer (then-goes (p .fixed) _ h (q ∙ rw c))
+-- the same of one answer alone
+module _ (s e a : List ℕ) (early : Finding) (x : early ≡ firstBroken (settingsGroup s ++ exerciseGroup e)) where
+  early-is : early ≡ preparedFor s e .early
+  unfolding preparedFor earlyIn
+  early-is = x
 
-pub ruleset to-51-steps = (found-early, found-answer, found-fixed, found-placed)
+  pub alone-early : (early .number ≡ 0 → ⊥) → early ≡ foundTo51 (preparedFor s e) (driversFor s e) e a
+  alone-early h = early-is ∙ found-early (preparedFor s e) (driversFor s e) e a (λ z. h (ap numberIn early-is ∙ z))
+
+  module _ (f : Finding) (none : early .number ≡ 0) (y : f ≡ firstBroken (answerGroup e a)) where
+    none-early : preparedFor s e .early .number ≡ 0
+    none-early = ap numberIn (sym early-is) ∙ none
+
+    pub alone-answer : (f .number ≡ 0 → ⊥) → f ≡ foundTo51 (preparedFor s e) (driversFor s e) e a
+    alone-answer h = found-answer (preparedFor s e) (driversFor s e) e a f none-early y h
+
+    pub alone-placed : (fixed : Finding) (ds : List ℕ) {r : Finding} → f .number ≡ 0 → fixed ≡ firstBroken (cellGroup e)
+        → ds ≡ driversBelow (knownAt e) (replicate 1024 NONE) (cellCount e) → r ≡ then fixed (placedBy ds (knownAt e) (cellCount e) e a)
+        → r ≡ foundTo51 (preparedFor s e) (driversFor s e) e a
+    unfolding preparedFor
+    alone-placed fixed ds kept c d q =
+        let (made, filled) = prepare-goes s e early x fixed ds none c d in
+        found-placed (preparedFor s e) (driversFor s e) e a f none-early y kept
+        (q ∙ rw (filled, ap (λ (p : Prepared). p .fixed) made))
+
+-- ---- the table of drivers is as long as it was lent
+cells-size : (e ds : List ℕ) → ds ≡ driversBelow (knownAt e) (replicate 1024 NONE) (cellCount e) → 1024 ≡ length ds
+cells-size e ds h = sym (rw h (drivers-length (knownAt e) (replicate 1024 NONE) (cellCount e) ∙ length-replicate {A = ℕ} 1024 NONE))
+
+pub drivers-size : (s e ds : List ℕ) → ds ≡ driversFor s e → 1024 ≡ length ds
+unfolding driversFor
+drivers-size s e ds h =
+    rw h (by-test (eqb (earlyIn s e .number) 0) (λ b. rw b (cells-size e _ refl)) (λ b. rw b (sym (length-replicate {A = ℕ} 1024 NONE))))
 
 -- ---- 60 to 65, from the lists by LAB
 module _ (t : Table) (e a : List ℕ) (cells : ℕ) (first next : List ℕ) (n : cells ≡ cellCount e)
@@ -276,9 +307,9 @@ module _ (s e a : List ℕ) (r : ℕ) (room : r ≡ 8192) where
       (λ b. rw (b, labs-found (eqb-true (firstBroken (checksTo51 c) .number) 0 b))) (λ b. rw b)))
 
   -- the judge's own call
-  module _ (before : List ℕ) (p : Prepared) (ds : List ℕ) (made : p ≡ preparedFor s e) (filled : ds ≡ driversFor s e) (f : Finding) (x : f ≡ foundTo51 p ds e a) where
+  module _ (before : List ℕ) (f : Finding) (x : f ≡ foundTo51 (preparedFor s e) (driversFor s e) e a) where
     to-51 : f ≡ firstBroken (checksTo51 c)
-    to-51 = x ∙ rw (made, filled) found-to-51
+    to-51 = x ∙ found-to-51
 
     whole : firstBroken (checks c) ≡ then f (firstBroken (labGroup c))
     whole = found-all ∙ rw (← to-51)

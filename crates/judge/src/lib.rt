@@ -16,7 +16,7 @@ ghost use Rattle.judge.specs.Call.{call};
 ghost use Rattle.judge.specs.Judge.{finding, legal, ofExercise, ofAnswer, settingsGroup, exerciseGroup, answerGroup, cellGroup, checks, firstBroken, apprenticeOf, lowestIn, culpritOf, verdictOf, judged, bytesOf, addressOf, routeBytes, routed, numbersOf};
 ghost use Rattle.judge.specs.Numbers.{faultOf};
 ghost use Rattle.judge.specs.passes.Stages.{numbered, placedBy};
-ghost use Rattle.judge.specs.passes.Preparing.{preparedFor, driversFor, foundTo51, foundInLabs, rowsOfLabs, foundFrom};
+ghost use Rattle.judge.specs.passes.Preparing.{then, preparedFor, driversFor, foundTo51, foundInLabs, rowsOfLabs, foundFrom};
 ghost use Rattle.tables.specs.passes.Tables.{driversBelow};
 ghost use Rattle.sheet.specs.Checks.{NONE};
 ghost use Rattle.netlist.specs.passes.Numbers.{numberAt};
@@ -254,6 +254,17 @@ pub fn prepare(settings: &[u8], exercise: &[u8], drivers: &mut [u16; 1024]) -> P
     Prepared { early, fixed }
 }
 
+// What was found in the cells, otherwise 50 and 51.
+fn placed_finding(fixed: Finding, exercise: &[u8], drivers: &[u16], answer: &[u8]) -> Finding
+    ensures { λ r. ⌜ r ≡ then fixed (placedBy (now (drivers .entry)) (knownAt (now (exercise .entry))) (cellCount (now (exercise .entry))) (now (exercise .entry)) (now (answer .entry))) ⌝ }
+{
+    if fixed.number != 0 {
+        return fixed;
+    }
+    let cells = exercise::cell_count(exercise);
+    place_finding(exercise, answer, cells, drivers)
+}
+
 // 10 to 51 and 70 to 75 of an answer, from what was prepared.
 fn finding_to_51(prepared: Prepared, exercise: &[u8], drivers: &[u16], answer: &[u8]) -> Finding
     ensures { λ r. ⌜ r ≡ foundTo51 prepared (now (drivers .entry)) (now (exercise .entry)) (now (answer .entry)) ⌝ }
@@ -266,12 +277,24 @@ fn finding_to_51(prepared: Prepared, exercise: &[u8], drivers: &[u16], answer: &
     if f.number != 0 {
         return f;
     }
-    let fixed = prepared.fixed;
-    if fixed.number != 0 {
-        return fixed;
+    placed_finding(prepared.fixed, exercise, drivers, answer)
+}
+
+// The same of one answer alone: the cells are looked at only where the answer passes 20 to 26.
+fn finding_alone(settings: &[u8], exercise: &[u8], answer: &[u8]) -> Finding
+    ensures { λ r. ⌜ r ≡ foundTo51 (preparedFor (now (settings .entry)) (now (exercise .entry))) (driversFor (now (settings .entry)) (now (exercise .entry))) (now (exercise .entry)) (now (answer .entry)) ⌝ }
+{
+    let f = early_finding(settings, exercise);
+    if f.number != 0 {
+        return f;
     }
-    let cells = exercise::cell_count(exercise);
-    place_finding(exercise, answer, cells, drivers)
+    let g = answer_finding(exercise, answer);
+    if g.number != 0 {
+        return g;
+    }
+    let mut drivers = [NONE; 1024];
+    let fixed = cells_finding(exercise, &mut drivers);
+    placed_finding(fixed, exercise, &drivers, answer)
 }
 
 // 60 to 65. The route bytes of the occupied LABs below the first broken one are put into the rows.
@@ -345,9 +368,7 @@ fn finding_of(settings: &[u8], exercise: &[u8], answer: &[u8], route: &mut [u8])
     ensures found { λ r. ⌜ r ≡ firstBroken (checks (call (now (settings .entry)) (now (exercise .entry)) (now (answer .entry)) (length (now (route .entry))))) ⌝ }
     ensures written { λ r. ⌜ now (route .exit) ≡ cond (eqb (r .number) 0) (routeBytes (call (now (settings .entry)) (now (exercise .entry)) (now (answer .entry)) (length (now (route .entry))))) (now (route .entry)) ⌝ }
 {
-    let mut drivers = [NONE; 1024];
-    let prepared = prepare(settings, exercise, &mut drivers);
-    let f = finding_to_51(prepared, exercise, &drivers, answer);
+    let f = finding_alone(settings, exercise, answer);
     if f.number != 0 {
         return f;
     }

@@ -1,4 +1,4 @@
--- What was found before the answer, what the answer has, what was found in the cells, what the places have: the first that is something.
+-- What was found before the answer, what the answer has, what was found in the cells or the places have: the first that is something.
 use Rattle.judge.proofs.Preparing.{to-51-steps}
 use borrow.Author.Needs.{needs}
 use Rattle.judge.proofs.finding_to_51.Statement.{statement}
@@ -11,7 +11,5 @@ finding-to-51-spec =
     (λ c. search to-51-steps depth 20)  -- returns
     (λ c κs. search needs)  -- answer-finding-requires
     (λ c. search to-51-steps depth 20)  -- returns-2
-    (λ c. search to-51-steps depth 20)  -- returns-3
-    (λ c κs. search needs)  -- cell-count-requires
-    (λ c κs. search needs)  -- place-finding-requires
-    (λ c. search to-51-steps depth 20))  -- returns-4
+    (λ c κs. search needs)  -- placed-finding-requires
+    (λ c. search to-51-steps depth 20))  -- returns-3
