@@ -46,7 +46,7 @@ module _ (k : List ℕ) (count i at : ℕ) (w : Walked k count i at) where
   pub walk-all : count ≤ i → at ≡ startOf k count
   walk-all h = let same : i ≡ count = omega (arith, w .within) in rw same at (w .stands)
 
--- the test after the walk
+-- 76: the test after the walk
 pub lengths-told : (k : List ℕ) (count i at : ℕ) → Walked k count i at → count ≤ i → count ≡ answerCount k → not (eqb at (length k)) ≡ wrongLengths k
 unfolding wrongLengths
 lengths-told k count i at w h c = rw (walk-all k count i at w h, c)
