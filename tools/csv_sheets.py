@@ -11,31 +11,21 @@ asked which row is at fault where they refuse; the proved readers and the judge 
 after what was written has been read back and is what was meant. Exit status: 0 when the work was done, otherwise 2.
 """
 
-import contextlib
 import ctypes
-import errno
 import os
 import re
-import shutil
-import signal
-import stat
 import struct
 import sys
 from typing import NamedTuple
 
+sys.path.insert(0, os.path.dirname(os.path.realpath(__file__)))
+import shared  # noqa: E402
+from shared import EXERCISE_LXE, LARGEST_SHEET, MEANING, NONE, Refused, counted, put_in_place, read_file, same, shown  # noqa: E402
+
 EXERCISE_CSV, ANSWER_CSV, SETTINGS_CSV = TABLES = "exercise.csv", "answer.csv", "settings.csv"
-EXERCISE_LXE, ANSWER_LXA, SETTINGS_LXT = SHEETS = "exercise.lxe", "answer.lxa", "settings.lxt"
+ANSWER_LXA, SETTINGS_LXT = "answer.lxa", "settings.lxt"
+SHEETS = EXERCISE_LXE, ANSWER_LXA, SETTINGS_LXT
 LARGEST_CSV = 32 << 20      # bytes
-LARGEST_SHEET = 12298       # one byte more than the largest legal sheet has: the judge needs no more
-MOST_LINES = 20             # of mistakes that are shown
-
-
-class Refused(Exception):
-    """Nothing is written, and these lines say why."""
-
-    def __init__(self, *lines):
-        super().__init__(*lines)
-        self.lines = lines
 
 
 # ---------------------------------------------------------------- the proved library
@@ -43,43 +33,29 @@ class Refused(Exception):
 RECORD = struct.Struct("=BB11H")        # struct nurimkkot_cell: kind, flag, eleven signals
 PLACE = struct.Struct("=3H")            # x, y, LE
 GIVEN, END = 0, 2                       # what a reader says
-HOUSE_SETTINGS = 12                     # the length of the settings sheet of document 01's board
 MOST_ENTRIES = 8                        # that the reader of settings sheets gives
 LARGEST_16, LARGEST_32 = 0xffff, 0xffffffff
 
 
-class Library:
-    """The functions of c/nurimkkot.h. A record is 13 numbers, a place three, an entry a byte of flags."""
+class Library(shared.Library):
+    """The judge, the readers and the writers. A record is 13 numbers, a place three, an entry a byte of flags."""
 
-    def __init__(self, path):
+    def find_functions(self):
+        super().find_functions()
         number, count, size = ctypes.c_uint8, ctypes.c_uint16, ctypes.c_size_t
         sheet, lent = ctypes.c_char_p, ctypes.c_void_p
-        try:
-            self.functions = ctypes.CDLL(path)
-            self.c_house_settings = self.function("house_settings", None, lent)
-            self.c_judge = self.function("judge", None, sheet, size, sheet, size, sheet, size, lent, size, lent)
-            self.c_open_exercise = self.function("open_exercise", number, sheet, size)
-            self.c_open_answer = self.function("open_answer", number, sheet, size)
-            self.c_next_record = self.function("next_record", number, sheet, size, lent, lent)
-            self.c_next_place = self.function("next_place", number, sheet, size, lent, lent)
-            self.c_write_exercise = self.function("write_exercise", number, count, sheet, size, lent, size, lent)
-            self.c_write_answer = self.function("write_answer", number, ctypes.c_uint32, lent, size, lent, size, lent)
-            self.c_read_settings = self.function("read_settings", number, sheet, size, lent, lent)
-            self.c_write_settings = self.function("write_settings", number, count, count, sheet, size, lent, size, lent)
-        except (OSError, AttributeError) as why:
-            raise Refused("the library can't be used: %s" % why) from None
-
-    def function(self, name, result, *arguments):
-        found = getattr(self.functions, "nurimkkot_" + name)
-        found.restype, found.argtypes = result, arguments
-        return found
+        self.c_open_exercise = self.function("open_exercise", number, sheet, size)
+        self.c_open_answer = self.function("open_answer", number, sheet, size)
+        self.c_next_record = self.function("next_record", number, sheet, size, lent, lent)
+        self.c_next_place = self.function("next_place", number, sheet, size, lent, lent)
+        self.c_write_exercise = self.function("write_exercise", number, count, sheet, size, lent, size, lent)
+        self.c_write_answer = self.function("write_answer", number, ctypes.c_uint32, lent, size, lent, size, lent)
+        self.c_read_settings = self.function("read_settings", number, sheet, size, lent, lent)
+        self.c_write_settings = self.function("write_settings", number, count, count, sheet, size, lent, size, lent)
 
     def judge(self, exercise, answer):
-        """The verdict's number, its cell and the apprentice, on document 01's board: no number up to 26 depends on the board."""
-        numbers, route, board = (ctypes.c_uint64 * 7)(), (ctypes.c_uint8 * 8192)(), ctypes.create_string_buffer(HOUSE_SETTINGS)
-        self.c_house_settings(board)
-        self.c_judge(board.raw, len(board), exercise, len(exercise), answer, len(answer), route, len(route), numbers)
-        return numbers[0], numbers[1], numbers[3]
+        """The verdict on document 01's board: no number up to 26 depends on the board."""
+        return self.verdict(self.house_settings(), exercise, answer)
 
     def read(self, step, form, sheet):
         """All that a reader gives of a sheet, each in its form, or None where the reader stops before the end."""
@@ -221,11 +197,6 @@ def separator_of(text, words, count):
         if score > best:
             best, found = score, separator
     return found
-
-
-def shown(text):
-    """A text in quotes, on one line, cut where it is long."""
-    return repr(text if len(text) <= 40 else text[:38] + "..")
 
 
 class CsvFile:
@@ -711,32 +682,19 @@ def why_73(library, settings):
 
 # ---------------------------------------------------------------- sheets to CSV
 
-# What the judge's number says of a sheet, with the cell where it names one.
-SAID = {10: "it has under 9 bytes", 11: "it does not begin with LXE", 12: "its version is not 1",
-        13: "it has more than 512 cells or more than 1024 nets", 14: "its length is not that of so many cells",
-        15: "the record of cell {} breaks the layout", 16: "cell {} drives a net that is driven already",
-        20: "it has under 11 bytes", 21: "it does not begin with LXA", 22: "its version is not 1", 23: "its apprentice is 0",
-        24: "it has another number of cells than the exercise", 25: "its length is not that of so many cells",
-        26: "the place of cell {} is out of range"}
-
-# What the reader's number says of a settings sheet.
-SAID_OF_SETTINGS = {70: "it has under 6 bytes", 71: "it does not begin with LXT", 72: "its version is neither 1 nor 2",
-                    73: "it has more than 8 entries", 74: "its length is not that of so many entries",
-                    75: "an entry has a flag above the five roles"}
-
-
 def need_good(library, exercise, answer):
     """Refuses sheets that get one of 10 to 26. Where the answer is None, the exercise is asked by itself."""
-    number, cell, _ = library.judge(exercise, answer or b"")
-    if number in SAID and not (number == 20 and answer is None):
-        raise Refused("%s is refused with %d: %s" % (EXERCISE_LXE if number < 20 else ANSWER_LXA, number, SAID[number].format(cell)))
+    number, cell, _, _ = library.judge(exercise, answer or b"")
+    if 10 <= number <= 26 and not (number == 20 and answer is None):
+        where = "" if cell == NONE else " (cell %d)" % cell
+        raise Refused("%s is refused with %d: %s%s" % (EXERCISE_LXE if number < 20 else ANSWER_LXA, number, MEANING[number], where))
 
 
 def read_good_settings(library, sheet):
     """The version, board and entries of a settings sheet. Refuses one that gets one of 70 to 75."""
     number, *said = library.settings(sheet)
     if number:
-        raise Refused("%s is refused with %d: %s" % (SETTINGS_LXT, number, SAID_OF_SETTINGS[number]))
+        raise Refused("%s is refused with %d: %s" % (SETTINGS_LXT, number, MEANING[number]))
     return tuple(said)
 
 
@@ -812,186 +770,18 @@ def sheets_to_csv(library, exercise, answer):
     again = read_exercise(files[EXERCISE_CSV])
     same((exercise_sheet(library, again), exercise))
     if answer is not None:
-        files[ANSWER_CSV] = answer_csv(library.judge(exercise, answer)[2], library.places(answer))
+        files[ANSWER_CSV] = answer_csv(library.judge(exercise, answer).apprentice, library.places(answer))
         same((answer_sheet(library, read_answer(files[ANSWER_CSV], cells_of_csv(again))), answer))
     return files
 
 
-# ---------------------------------------------------------------- files
-
-STOPPING = (signal.SIGINT, signal.SIGTERM, signal.SIGHUP)
-
-
-def why_not(why):
-    """An error of the system, in its words."""
-    return why.strerror or str(why)
-
-
-def read_file(folder, name, most):
-    """The first bytes of a file, at most so many; None where there is no file."""
-    try:
-        file = os.open(os.path.join(folder, name), os.O_RDONLY | os.O_NONBLOCK | os.O_CLOEXEC)
-    except (FileNotFoundError, NotADirectoryError):
-        return None
-    except OSError as why:
-        raise Refused("%s can't be read: %s" % (name, why_not(why))) from None
-    try:
-        if not stat.S_ISREG(os.fstat(file).st_mode):
-            raise Refused("%s can't be read: not a plain file" % name)
-        return read_bytes(file, most)
-    except OSError as why:
-        raise Refused("%s can't be read: %s" % (name, why_not(why))) from None
-    finally:
-        os.close(file)
-
-
-def read_bytes(file, most):
-    parts = []
-    while most:
-        part = os.read(file, most)
-        if not part:
-            break
-        parts.append(part)
-        most -= len(part)
-    return b"".join(parts)
-
+# ---------------------------------------------------------------- the verbs
 
 def read_csv(folder, name):
     data = read_file(folder, name, LARGEST_CSV + 1)
     if data is not None and len(data) > LARGEST_CSV:
         raise Refused("%s can't be read: it has over %d bytes" % (name, LARGEST_CSV))
     return data
-
-
-def mode_of(path):
-    """The mode of a file that may be replaced, or None where there is none. A link is not followed, and not replaced."""
-    try:
-        mode = os.lstat(path).st_mode
-    except FileNotFoundError:
-        return None
-    if not stat.S_ISREG(mode) or not os.access(path, os.W_OK):
-        raise Refused("%s is there and is no plain file that may be written, so it is not replaced" % os.path.basename(path))
-    return stat.S_IMODE(mode)
-
-
-def make_file(path, data, mode):
-    """Makes a file that was not there, and has it on the disk."""
-    file = os.open(path, os.O_WRONLY | os.O_CREAT | os.O_EXCL | os.O_CLOEXEC, 0o666)
-    try:
-        if mode is not None:
-            os.fchmod(file, mode)
-        while data:
-            data = data[os.write(file, data):]
-        os.fsync(file)
-    finally:
-        os.close(file)
-
-
-def remove(*paths):
-    """Removes files that may be there."""
-    for path in paths:
-        with contextlib.suppress(OSError):
-            os.unlink(path)
-
-
-placed = []     # the files that have got their names
-
-
-@contextlib.contextmanager
-def undisturbed():
-    """Here signals that would end the work are held back."""
-    before = signal.pthread_sigmask(signal.SIG_BLOCK, STOPPING)
-    try:
-        yield
-    finally:
-        signal.pthread_sigmask(signal.SIG_SETMASK, before)
-
-
-def replace_all(made, kept):
-    """Gives each new file its name, or none: where one fails, the copies of what was there are put back."""
-    done = []
-    try:
-        for path in made:
-            if os.path.lexists(path):
-                shutil.copy2(path, kept[path], follow_symlinks=False)
-        for path in made:
-            os.replace(made[path], path)
-            done.append(path)
-    except OSError:
-        for path in done:
-            if os.path.lexists(kept[path]):
-                os.replace(kept[path], path)
-            else:
-                os.unlink(path)
-        remove(*kept.values())
-        raise
-    remove(*kept.values())
-
-
-def add_all(made):
-    """Gives each new file its name, or none. A file that has come there meanwhile is not replaced."""
-    done = []
-    try:
-        for path in made:
-            add(made[path], path)
-            done.append(path)
-    except OSError:
-        for path in done:
-            os.unlink(path)
-        raise
-
-
-def add(made, path):
-    try:
-        os.link(made, path)
-    except OSError as why:
-        if why.errno not in (errno.EPERM, errno.ENOTSUP, errno.ENOSYS):
-            raise
-        # The file system has no second names.
-        if os.path.lexists(path):
-            raise FileExistsError(errno.EEXIST, os.strerror(errno.EEXIST)) from None
-        os.rename(made, path)
-
-
-def put_in_place(folder, files, check, replace):
-    """Puts files into the folder, all or none. Each is made under another name, and what is then in it is checked."""
-    hidden = lambda name, end: os.path.join(folder, ".%s.%d.%s" % (name, os.getpid(), end))
-    paths = {name: os.path.join(folder, name) for name in files}
-    made = {path: hidden(name, "new") for name, path in paths.items()}
-    kept = {path: hidden(name, "old") for name, path in paths.items()}
-    try:
-        for name, path in paths.items():
-            make_file(made[path], files[name], mode_of(path) if replace else None)
-        check({name: read_file(folder, os.path.basename(made[path]), len(files[name]) + 1) for name, path in paths.items()})
-        with undisturbed():
-            if replace:
-                replace_all(made, kept)
-            else:
-                add_all(made)
-            placed.extend(files)
-    except OSError as why:
-        raise Refused("%s not written: %s" % (listed(files) + (" is" if len(files) == 1 else " are"), why_not(why))) from None
-    finally:
-        with undisturbed():
-            remove(*made.values())
-
-
-# ---------------------------------------------------------------- the verbs
-
-def same(*pairs):
-    """Refuses what is not what was meant."""
-    if any(found != meant for found, meant in pairs):
-        raise Refused("what was made does not read back as it was meant, and nothing is written")
-
-
-def listed(names):
-    """Names in words: 'a', 'a and b', 'a, b and c'."""
-    *first, last = names
-    return "%s and %s" % (", ".join(first), last) if first else last
-
-
-def counted(count, what, many=None):
-    return "%d %s" % (count, what if count == 1 else many or what + "s")
 
 
 def about_exercise(name, cells, nets):
@@ -1049,7 +839,7 @@ def check_sheets(library, exercise, answer, settings, sheets):
         same((library.records(sheet), exercise.records()), (net_count(sheet), len(exercise.nets)))
     if answer:
         need_good(library, sheet, sheets[ANSWER_LXA])
-        same((library.places(sheets[ANSWER_LXA]), answer.places()), (library.judge(sheet, sheets[ANSWER_LXA])[2], answer.apprentice))
+        same((library.places(sheets[ANSWER_LXA]), answer.places()), (library.judge(sheet, sheets[ANSWER_LXA]).apprentice, answer.apprentice))
     if settings:
         same((read_good_settings(library, sheets[SETTINGS_LXT]), (settings.version, settings.board, settings.entries())))
 
@@ -1067,7 +857,7 @@ def csv(library, folder):
         cells = len(library.records(exercise))
         lines.append(about_exercise(EXERCISE_CSV, cells, net_count(exercise)))
     if answer is not None:
-        lines.append(about_answer(ANSWER_CSV, cells, library.judge(exercise, answer)[2]))
+        lines.append(about_answer(ANSWER_CSV, cells, library.judge(exercise, answer).apprentice))
     if settings is not None:
         files.update(settings_to_csv(library, settings))
         lines.append(about_settings(SETTINGS_CSV, *read_good_settings(library, settings)))
@@ -1083,57 +873,11 @@ def csv(library, folder):
 VERBS = {"write": write, "csv": csv}
 
 
-# ---------------------------------------------------------------- as a program
-
-class Stopped(BaseException):
-    """A signal has ended the work."""
-
-
-def stop(number, frame):
-    """Ends the work, but for work that is done already."""
-    if not placed:
-        raise Stopped
-
-
-def catch_signals():
-    """Has signals end the work in order, but those that are ignored."""
-    for number in STOPPING:
-        if signal.getsignal(number) != signal.SIG_IGN:
-            signal.signal(number, stop)
-
-
-def write_out(stream, lines):
-    """Writes lines to a standard stream. No file is open by then, so none has its number where it is closed."""
-    data = "".join(line + "\n" for line in lines).encode("utf-8", "backslashreplace")
-    while data:
-        data = data[os.write(stream, data):]
-
-
-def refuse(lines):
-    more = len(lines) - MOST_LINES
-    lines = list(lines[:MOST_LINES]) + (["and %s" % counted(more, "more mistake")] if more > 0 else [])
-    with contextlib.suppress(OSError):
-        write_out(2, ["nurimkkot: " + line for line in lines])
-    return 2
-
-
 def main(words):
     if len(words) != 3 or words[0] not in VERBS:
-        return refuse(["csv_sheets.py takes write or csv, the library and the folder"])
-    try:
-        catch_signals()
-        lines = VERBS[words[0]](Library(words[1]), words[2])
-    except Refused as why:
-        return refuse(why.lines)
-    except Stopped:
-        return refuse(["interrupted, and nothing is written"])
-    except Exception as why:
-        return refuse(["csv_sheets.py failed, and nothing is written: %s %s" % (type(why).__name__, shown(str(why)))])
-    try:
-        write_out(1, lines)
-    except OSError as why:
-        return refuse(["standard output was not written whole: %s" % why_not(why)])
-    return 0
+        return shared.refuse(["csv_sheets.py takes write or csv, the library and the folder"])
+    verb, path, folder = words
+    return shared.run("csv_sheets.py", lambda: VERBS[verb](Library(path), folder))
 
 
 if __name__ == "__main__":

@@ -28,6 +28,7 @@ import sys
 MAX_NETS = 1024
 MAX_CELLS = 512
 MAX_ENTRIES = 8
+MAX_ANSWERS = 32
 
 
 class Signal(int):
@@ -182,6 +183,17 @@ def settings(*entries, board=None):
     for i, flags in enumerate(entries):
         checked("entry %d" % i, flags, 0, 31)
     return raw_settings(1 if board is None else 2, board, *entries)
+
+
+def class_sheet(*answers):
+    """A class sheet; an answer is any bytes that fit a length of 16 bits."""
+    sheet = b"LXC" + struct.pack("<HH", 1, checked("an answer count", len(answers), 0,
+                                                   MAX_ANSWERS))
+    for i, an in enumerate(answers):
+        if not isinstance(an, bytes):
+            raise ValueError("answer %d is a sheet, not %r" % (i, an))
+        sheet += struct.pack("<H", checked("the length of answer %d" % i, len(an), 0, 65535)) + an
+    return sheet
 
 
 # The board of document 01, and a second one that is wired differently.
@@ -1495,10 +1507,24 @@ def make(top):
         write(folder, "expected.txt", expected.expected_lines())
         write(folder, "listing.txt", expected.listing())
 
-    folder = os.path.join(top, "samples", "class")
+    make_small_class(os.path.join(top, "samples", "class-small"))
+    make_class(os.path.join(top, "samples", "class"))
+
+
+def make_small_class(folder):
+    """The worked listing's answer, and an empty one."""
+    os.makedirs(folder, exist_ok=True)
+    write(folder, "exercise.lxe", LISTING_EX)
+    write(folder, "answer-1.lxa", LISTING_AN)
+    write(folder, "answer-2.lxa", b"")
+    write(folder, "class.lxc", class_sheet(LISTING_AN, b""))
+
+
+def make_class(folder):
     os.makedirs(folder, exist_ok=True)
     ex = class_exercise()
     write(folder, "exercise.lxe", ex)
+    write(folder, "class.lxc", class_sheet(*[sheet for _, sheet, _ in class_answers()]))
     lines, culprits = "", ""
     for i, (_, sheet, expected) in enumerate(class_answers()):
         name = "answer-%02d" % (i + 1)

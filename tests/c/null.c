@@ -1,7 +1,7 @@
 /* NULL with length or count 0, as an empty container hands it over: null EXERCISE ANSWER .. Every answer is the one for an empty run that
  * has an address, nothing is written but what the header says, and NULL does not get as far as memcpy or memset. To be linked
  * with --wrap for these two. A read or write at NULL ends the test. */
-#include "check.h"
+#include "classes.h"
 #include "../../c/sheet_files.h"
 
 void *__real_memcpy(void *to, const void *from, size_t length);
@@ -68,6 +68,54 @@ static uint64_t judge(const uint8_t *exercise, size_t exercise_length, const uin
     uint64_t number = judge_by(0, exercise, exercise_length, answer, answer_length, with_route);
     expect(number == (with_route ? 70 : 1), "no settings sheet", (long)number);
     return judge_by(1, exercise, exercise_length, answer, answer_length, with_route);
+}
+
+/* A class with sheets and rows of which some are NULL, beside the same call with an address for each. With rows there are three. */
+static uint8_t mark_by(const uint8_t *settings, struct sheet exercise, struct sheet class_sheet, int with_rows, uint32_t *first)
+{
+    struct nurimkkot_row rows[3], same[3];
+    size_t settings_length = settings ? sizeof HOUSE : 0, count = with_rows ? 3 : 0, filled[3], others;
+    uint8_t said;
+    memset(rows, 0xa5, sizeof rows);
+    memset(same, 0xa5, sizeof same);
+    memset(filled, 0x5a, sizeof filled);
+    inside = 1;
+    said = nurimkkot_mark_class(settings, settings_length, exercise.bytes, exercise.length, class_sheet.bytes, class_sheet.length,
+                                with_rows ? rows : NULL, count, filled + 1);
+    inside = 0;
+    expect(said == nurimkkot_mark_class(at_an_address(settings), settings_length, at_an_address(exercise.bytes), exercise.length,
+                                        at_an_address(class_sheet.bytes), class_sheet.length, same, count, &others),
+           "the same number of a class as with an address", said);
+    expect(memcmp(rows, same, sizeof same) == 0, "the same rows as with an address", said);
+    expect(filled[1] == others && others <= count, "the same count of rows as with an address", (long)filled[1]);
+    expect(filled[0] == filled[2] && filled[0] == (size_t)0x5a5a5a5a5a5a5a5a, "guards around the count of rows", said);
+    *first = filled[1] == 0 ? 0 : rows[0].number;
+    return said;
+}
+
+/* No class sheet, a class of no answers, and a class of one answer, which gets this number, and an empty one; with and without a settings
+ * sheet, an exercise and rows. */
+static void mark(const uint8_t *exercise, size_t exercise_length, const uint8_t *answer, size_t answer_length, uint64_t number)
+{
+    static uint8_t two[7 + 2 + ANSWER_ROOM + 2], none[7];
+    struct sheet answers[2] = {{NULL, 0}, {NULL, 0}}, exercises[2] = {{NULL, 0}, {NULL, 0}};
+    struct sheet classes[3] = {{NULL, 0}, {none, sizeof none}, {two, 0}};
+    int which, with;
+    answers[0].bytes = answer;
+    answers[0].length = answer_length;
+    exercises[1].bytes = exercise;
+    exercises[1].length = exercise_length;
+    put_class(none, answers, 0);
+    classes[2].length = put_class(two, answers, 2);
+    for (which = 0; which < 3; which++)
+        for (with = 0; with < 8; with++) {
+            int with_settings = with & 1, with_exercise = with >> 1 & 1, with_rows = with >> 2;
+            uint32_t first;
+            uint8_t said = mark_by(with_settings ? HOUSE : NULL, exercises[with_exercise], classes[which], with_rows, &first);
+            expect(said == (which == 0 ? 76 : which == 2 && !with_rows ? 77 : 0), "the number of a class", said);
+            if (which == 2 && with_rows)
+                expect(first == (!with_settings ? 70 : !with_exercise ? 10 : number), "the first row of a class", (long)first);
+        }
 }
 
 /* The check of one LAB, with or without a settings sheet and a list. */
@@ -243,7 +291,8 @@ int main(int argc, char **argv)
         number = judge(exercise, exercise_length, NULL, 0, 1);
         expect(number >= 10 && number <= 20, argv[pair], (long)number);
         empty_answers += number == 20;
-        judge(exercise, exercise_length, answer, answer_length, 1);
+        number = judge(exercise, exercise_length, answer, answer_length, 1);
+        mark(exercise, exercise_length, answer, answer_length, number);
         pairs++;
     }
     expect(pairs > 0 && empty_answers > 0 && empty_answers < pairs, "sheets of both sorts", pairs);
@@ -256,6 +305,6 @@ int main(int argc, char **argv)
     writers();
     expect(calls > 0, "memcpy and memset were watched", calls);
     if (failures == 0)
-        printf("C: NULL with length 0 is an empty sheet, route, list or buffer, beside %d pairs of sheets\n", pairs);
+        printf("C: NULL with length 0 is an empty sheet, route, list, buffer or run of rows, beside %d pairs of sheets\n", pairs);
     return failures != 0;
 }

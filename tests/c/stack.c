@@ -1,7 +1,7 @@
 /* Measures the stack that a call of each function uses and fails where that is not less than the header says. A call runs in a thread
- * whose stack is painted first; the paint that is gone tells what the call used. The sheets have 512 cells, the LABs and the list 32, and
- * eight needs, the most there are, on eight entries, as many as a board may have, so that the search goes as deep as it can. Built without
- * sanitizers, whose frames would be measured too. */
+ * whose stack is painted first; the paint that is gone tells what the call used. The sheets have 512 cells, the class 32 answers, the LABs
+ * and the list 32 cells and eight needs, the most there are, on eight entries, as many as a board may have, so that the search goes as deep
+ * as it can. Built without sanitizers, whose frames would be measured too. */
 #define _XOPEN_SOURCE 600
 #include "check.h"
 
@@ -18,6 +18,7 @@
 
 /* The header's figures: each function uses less. */
 #define JUDGE_LIMIT (48 * KIB)
+#define CLASS_LIMIT (48 * KIB)
 #define CHECK_LIMIT (8 * KIB)
 #define WRITE_EXERCISE_LIMIT (16 * KIB)
 /* Every other function. */
@@ -25,6 +26,9 @@
 
 static uint8_t exercise[9 + 24 * CELLS], answer[11 + 4 * CELLS], route[NURIMKKOT_ROUTE_SIZE], bytes[8], said;
 static uint64_t numbers[NURIMKKOT_NUMBERS];
+static uint8_t class_sheet[7 + NURIMKKOT_MOST_ANSWERS * (2 + sizeof answer)];
+static struct nurimkkot_row rows[NURIMKKOT_MOST_ANSWERS];
+static size_t lent, filled;
 static struct nurimkkot_cell cells[CELLS], list[LIST], read_back;
 static uint16_t places[3 * CELLS], at, fields[NURIMKKOT_CELL_FIELDS];
 static uint8_t sheet[sizeof exercise];
@@ -37,6 +41,11 @@ static uint16_t board[NURIMKKOT_SETTINGS_NUMBERS];
 static void judge(void)
 {
     nurimkkot_judge(settings, sizeof settings, exercise, sizeof exercise, answer, sizeof answer, route, sizeof route, numbers);
+}
+
+static void mark_class(void)
+{
+    said = nurimkkot_mark_class(settings, sizeof settings, exercise, sizeof exercise, class_sheet, sizeof class_sheet, rows, lent, &filled);
 }
 
 static void check_lab(void)
@@ -188,6 +197,42 @@ static void fill(uint8_t roles)
     }
 }
 
+/* Puts a class sheet together, of as many answers as there may be; each is the answer of fill(), and does without memcpy too. */
+static void fill_class(void)
+{
+    static const uint8_t head[7] = {'L', 'X', 'C', 1, 0, NURIMKKOT_MOST_ANSWERS, 0};
+    uint8_t *to = class_sheet;
+    size_t i, j;
+    for (j = 0; j < sizeof head; j++)
+        *to++ = head[j];
+    for (i = 0; i < NURIMKKOT_MOST_ANSWERS; i++) {
+        *to++ = sizeof answer % 256;
+        *to++ = sizeof answer / 256;
+        for (j = 0; j < sizeof answer; j++)
+            *to++ = answer[j];
+    }
+}
+
+/* A class of as many answers as there may be, every row with this verdict; then one with a row too few, and one with a byte of its mark
+ * wrong. Gives the larger of `before` and what they used. */
+static size_t classes(uint8_t verdict, size_t before)
+{
+    size_t used, i;
+    fill_class();
+    lent = NURIMKKOT_MOST_ANSWERS;
+    used = less_than(CLASS_LIMIT, "stack of nurimkkot_mark_class", mark_class, before);
+    expect(said == 0 && filled == NURIMKKOT_MOST_ANSWERS, "a class marked", said);
+    for (i = 0; i < NURIMKKOT_MOST_ANSWERS; i++)
+        expect(rows[i].number == verdict && rows[i].apprentice == 7, "verdict of a row", (long)i);
+    lent--;
+    used = less_than(CLASS_LIMIT, "stack of nurimkkot_mark_class", mark_class, used);
+    expect(said == 77 && filled == 0, "a class with a row too few", said);
+    class_sheet[2] = 'A';
+    used = less_than(CLASS_LIMIT, "stack of nurimkkot_mark_class", mark_class, used);
+    expect(said == 76 && filled == 0, "a class with another mark", said);
+    return used;
+}
+
 /* The readers of both sheets. The first cell is a register, the last one combinational. Gives the most that one of them used. */
 static size_t readers(void)
 {
@@ -243,7 +288,7 @@ static size_t boards(void)
 
 int main(void)
 {
-    size_t judges = 0, checks = 0, reads, exercises, answers, settled;
+    size_t judges = 0, marks = 0, checks = 0, reads, exercises, answers, settled;
     int served;
     /* Eight needs, which all get an entry; then the last of them, sload, gets none, and every other way is tried. */
     for (served = 1; served >= 0; served--) {
@@ -253,13 +298,15 @@ int main(void)
         expect(said == expected, "number of the list", said);
         judges = less_than(JUDGE_LIMIT, "stack of nurimkkot_judge", judge, judges);
         expect(numbers[NURIMKKOT_NUMBER] == expected, "verdict of the sheets", (long)numbers[NURIMKKOT_NUMBER]);
+        marks = classes(expected, marks);
     }
-    expect(checks > MARGIN && judges > MARGIN, "the measuring itself", (long)judges);
+    expect(checks > MARGIN && judges > MARGIN && marks > MARGIN, "the measuring itself", (long)judges);
     reads = readers();
     writers(&exercises, &answers);
     settled = boards();
-    printf("C: stack: nurimkkot_judge %lu bytes, nurimkkot_check_lab %lu, a reader at most %lu, nurimkkot_write_exercise %lu, "
-           "nurimkkot_write_answer %lu, the settings sheet at most %lu\n", (unsigned long)judges, (unsigned long)checks, (unsigned long)reads,
-           (unsigned long)exercises, (unsigned long)answers, (unsigned long)settled);
+    printf("C: stack: nurimkkot_judge %lu bytes, nurimkkot_mark_class %lu, nurimkkot_check_lab %lu, a reader at most %lu, "
+           "nurimkkot_write_exercise %lu, nurimkkot_write_answer %lu, the settings sheet at most %lu\n", (unsigned long)judges,
+           (unsigned long)marks, (unsigned long)checks, (unsigned long)reads, (unsigned long)exercises, (unsigned long)answers,
+           (unsigned long)settled);
     return failures != 0;
 }

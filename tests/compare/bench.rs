@@ -2,8 +2,9 @@
 //! sheets, also where the search for a way is long, how it grows with the number of
 //! cells, how the count of nets into a LAB grows with the number of reads, and what
 //! the least work takes in the same run; then the list check, the readers and the
-//! writers beside plain ones.
+//! writers beside plain ones, and a class beside as many single calls.
 
+mod class;
 mod generate;
 mod judge;
 mod plain;
@@ -11,6 +12,7 @@ mod proved;
 mod settings;
 mod writer;
 
+use class::{Row, MOST};
 use generate::*;
 use plain::{CellRecord, Settings, Step};
 use settings::HOUSE;
@@ -587,6 +589,143 @@ fn nets(rng: &mut Rng) {
     }
 }
 
+/// An exercise, answers to it, and the class sheet of these.
+struct Class {
+    exercise: Vec<u8>,
+    answers: Vec<Vec<u8>>,
+    sheet: Vec<u8>,
+}
+
+impl Class {
+    fn new(exercise: Vec<u8>, answers: Vec<Vec<u8>>) -> Class {
+        Class {
+            sheet: class::sheet(&answers),
+            exercise,
+            answers,
+        }
+    }
+
+    /// Legal answers that have the same cells together, in other LABs each time.
+    fn legal(rng: &mut Rng, size: usize, many: bool, count: usize) -> Class {
+        let mut s = sheets(rng, size, many, Outcome::Legal);
+        let exercise = s.exercise();
+        let mut labs: Vec<usize> = (0..1024).collect();
+        let mut answer = || {
+            rng.shuffle(&mut labs);
+            for c in &mut s.cells {
+                let lab = labs[c.lab()];
+                (c.x, c.y) = ((lab % 32) as u8, (lab / 32) as u8);
+            }
+            s.apprentice += 1;
+            s.answer()
+        };
+        let answers = (0..count).map(|_| answer()).collect();
+        Class::new(exercise, answers)
+    }
+
+    /// The sample class in any order; the first ones again where more are wanted.
+    fn sample(rng: &mut Rng, count: usize) -> Class {
+        let mut answers = SAMPLE_ANSWERS.map(|a| a.to_vec());
+        rng.shuffle(&mut answers);
+        let answers = answers.into_iter().cycle().take(count).collect();
+        Class::new(SAMPLE_EXERCISE.to_vec(), answers)
+    }
+}
+
+macro_rules! sample_answers {
+    ($($number:literal)*) => {
+        [$(include_bytes!(concat!("../../samples/class/answer-", $number, ".lxa"))),*]
+    };
+}
+
+const SAMPLE_EXERCISE: &[u8] = include_bytes!("../../samples/class/exercise.lxe");
+const SAMPLE_ANSWERS: [&[u8]; 18] = sample_answers!(
+    "01" "02" "03" "04" "05" "06" "07" "08" "09" "10" "11" "12" "13" "14" "15" "16" "17" "18"
+);
+
+const NO_ROW: Row = Row {
+    number: 0,
+    cell: 0,
+    lab: 0,
+    apprentice: 0,
+};
+
+// As many different classes in turn.
+const CLASSES: usize = 8;
+
+/// Microseconds for a class in one call, in single calls, and by the Rust judge, in
+/// turn.
+fn mark_times(classes: &[Class]) -> [f64; 3] {
+    let mut rows = [NO_ROW; MOST];
+    let mut route = vec![0u8; judge::ROUTE];
+    let mut other_route = route.clone();
+    let mut whole = |c: &Class| {
+        black_box(proved::mark_class(&HOUSE, &c.exercise, &c.sheet, &mut rows));
+    };
+    let mut singles = |c: &Class| {
+        for a in &c.answers {
+            black_box(proved::judge(&HOUSE, &c.exercise, a, &mut route));
+        }
+    };
+    let mut rust = |c: &Class| {
+        for a in &c.answers {
+            black_box(judge::judge(&HOUSE, &c.exercise, a, &mut other_route));
+        }
+    };
+    let n = rounds(classes, &mut whole);
+    let mut each = [Vec::new(), Vec::new(), Vec::new()];
+    // Fewer runs where a single round already fills the time.
+    let runs = if n == 1 { RUNS / 3 } else { RUNS };
+    for _ in 0..runs {
+        each[0].push(run(classes, n, &mut whole));
+        each[1].push(run(classes, n, &mut singles));
+        each[2].push(run(classes, n, &mut rust));
+    }
+    each.map(|times| median(times) / 1000.0)
+}
+
+/// All three say the same of the class.
+fn assert_rows(c: &Class) {
+    let mut rows = [NO_ROW; MOST];
+    let mut route = vec![0u8; judge::ROUTE];
+    let told = proved::mark_class(&HOUSE, &c.exercise, &c.sheet, &mut rows);
+    assert_eq!(told, (0, c.answers.len()));
+    for (a, row) in c.answers.iter().zip(&rows) {
+        assert_eq!(*row, proved::row(&HOUSE, &c.exercise, a, &mut route));
+        assert_eq!(*row, class::row_of(&HOUSE, &c.exercise, a, &mut route));
+    }
+}
+
+/// A class of eighteen and one of 32 beside as many single calls.
+fn classes(rng: &mut Rng) {
+    println!();
+    println!("time per class, median of up to {RUNS} runs over {CLASSES} classes");
+    println!(
+        "{:<18}{:>6}{:>8}{:>13}{:>13}{:>13}{:>9}{:>9}",
+        "class", "cells", "answers", "class us", "singles us", "Rust us", "/singles", "/Rust"
+    );
+    type Make = fn(&mut Rng, usize) -> Class;
+    let kinds: [(&str, Make); 4] = [
+        ("legal, one LAB", |r, n| Class::legal(r, 8, false, n)),
+        ("legal, few LABs", |r, n| Class::legal(r, 512, false, n)),
+        ("legal, many LABs", |r, n| Class::legal(r, 512, true, n)),
+        ("sample class", Class::sample),
+    ];
+    for (what, make) in kinds {
+        for count in [18, MOST] {
+            let list: Vec<Class> = (0..CLASSES).map(|_| make(rng, count)).collect();
+            list.iter().for_each(assert_rows);
+            let cells = plain::word(&list[0].exercise, 7);
+            let [whole, singles, rust] = mark_times(&list);
+            println!(
+                "{what:<18}{cells:>6}{count:>8}{whole:>13.3}{singles:>13.3}{rust:>13.3}{:>9.2}{:>9.2}",
+                whole / singles,
+                whole / rust
+            );
+        }
+    }
+}
+
 fn main() {
     let mut rng = Rng::new(1);
     let mut route = vec![0u8; judge::ROUTE];
@@ -665,4 +804,5 @@ fn main() {
     nets(&mut rng);
     bounds(&mut rng, &growth);
     forms(&mut rng);
+    classes(&mut rng);
 }

@@ -1,13 +1,17 @@
 //! Judges seeded pairs of sheets, each on a board, by the proved judge and by the
 //! Rust judge, reads them by the readers, checks the list of every LAB, writes them
-//! and others by the writers, and stops at the first difference.
+//! and others by the writers, marks classes, and stops at the first difference.
 //! Arguments: number of pairs (200000), seed (1).
 
 mod boards;
+mod class;
+mod class_examples;
+mod class_sheets;
 mod faults;
 mod forms;
 mod generate;
 mod judge;
+mod marking;
 mod nets;
 mod plain;
 mod proved;
@@ -23,6 +27,8 @@ use std::fmt::Write;
 use std::process::exit;
 
 const GUARD: usize = 64;
+/// One pair of so many gets a class.
+const PAIRS_TO_A_CLASS: usize = 2;
 const NO_NEEDS: [u8; 8] = [255; 8];
 
 fn hex(title: &str, b: &[u8]) -> String {
@@ -746,6 +752,44 @@ fn report_writes(seen: &writes::Counts) -> bool {
     missing || seen.nets == 0 || seen.boards == 0 || seen.faults.contains(&0)
 }
 
+/// The same for the classes: those that are marked, then the refusals.
+fn report_classes(seen: &marking::Counts) -> bool {
+    let mut missing = rising("class sheets, by answers", &seen.answers);
+    let numbers = |wanted: fn(&usize) -> bool| -> Vec<usize> {
+        let all = NUMBERS.iter().map(|&n| n as usize);
+        all.filter(wanted).collect()
+    };
+    let rows = numbers(|&n| n != 1);
+    missing |= by_number("  rows, by number", &seen.rows, &rows);
+    // What depends on the answer, and what does not.
+    let own = numbers(|n| matches!(n, 0 | 20..=26 | 50..=65));
+    missing |= by_number("  right before a legal row", &seen.legal_next, &own);
+    missing |= by_number("  right after a legal row", &seen.legal_before, &own);
+    let others = numbers(|n| matches!(n, 10..=16 | 70..=75));
+    missing |= by_number("  two rows or more, all with", &seen.every, &others);
+    missing |= by_name("  classes with", &marking::CASES.map(|c| c.0), &seen.cases);
+    let lent = ["as many", "more", "32 for fewer"];
+    missing |= by_name("  rows lent", &lent, &seen.marked);
+    let grouped = ["border moved", "two answers joined"];
+    missing |= by_name("  grouped otherwise", &grouped, &seen.regrouped);
+    missing |= by_name("    with other rows", &grouped, &seen.changed);
+    report_refused_classes(seen) || missing
+}
+
+fn report_refused_classes(seen: &marking::Counts) -> bool {
+    let few = ["no row", "one too few", "beside other bad sheets"];
+    let mut missing = by_name("77", &few, &seen.too_few);
+    let causes = class::CAUSES.map(|c| c.1);
+    missing |= by_name("76", &causes, &seen.causes);
+    missing |= by_name("  with too few rows as well", &causes, &seen.both);
+    missing |= rising("  under 7 bytes, by length", &seen.short);
+    let faults = class_sheets::FAULTS.map(|f| f.1);
+    missing |= by_name("  planted alone", &faults, &seen.faults);
+    println!("  beside other bad sheets: {}", seen.beside);
+    println!("sheets changed and still good: {}", seen.still_good);
+    missing || seen.beside == 0 || seen.still_good == 0
+}
+
 fn main() {
     let mut args = std::env::args().skip(1);
     let mut number = |default: u64| match args.next() {
@@ -762,8 +806,8 @@ fn main() {
     let longest = 16384 + 2 * GUARD;
     let pattern: Vec<u8> = (0..longest + 4096).map(|_| rng.byte()).collect();
     let mut both = Both::new();
-    // The forms and the writes take nothing from the numbers that the pairs are
-    // made of.
+    // The forms, the writes and the classes take nothing from the numbers that the
+    // pairs are made of.
     let mut other = Rng::new(!seed);
     run_examples(&mut both, &mut other, &pattern);
 
@@ -778,6 +822,15 @@ fn main() {
         Ok(calls) => println!("{calls} settled calls of the writers agree"),
         Err(wrong) => {
             print!("settled calls of the writers: {wrong}");
+            exit(1);
+        }
+    }
+    let mut fourth = Rng::new(seed ^ 0xaaaa_aaaa);
+    let mut marking = marking::Marking::new();
+    match marking.settled(&mut fourth) {
+        Ok(calls) => println!("{calls} settled calls for a class agree"),
+        Err(wrong) => {
+            print!("settled calls for a class: {wrong}");
             exit(1);
         }
     }
@@ -831,6 +884,11 @@ fn main() {
         if let Err(wrong) = writes.made(&mut third, fill) {
             fail(wrong);
         }
+        if fourth.below(PAIRS_TO_A_CLASS) == 0 {
+            if let Err(wrong) = marking.class(&mut fourth, fill, &case) {
+                fail(wrong);
+            }
+        }
     }
 
     println!(
@@ -847,6 +905,7 @@ fn main() {
     missing |= report_boards(&boards);
     missing |= report_forms(&seen);
     missing |= report_writes(&writes.counts);
+    missing |= report_classes(&marking.counts);
     if missing {
         println!("a number did not occur");
         exit(1);

@@ -1099,7 +1099,7 @@ fn aim_cells(rng: &mut Rng, number: u8, s: &mut Sheets) {
     }
 }
 
-fn put_word(b: &mut [u8], at: usize, v: u16) {
+pub fn put_word(b: &mut [u8], at: usize, v: u16) {
     b[at..at + 2].copy_from_slice(&v.to_le_bytes());
 }
 
@@ -1108,7 +1108,7 @@ fn get_word(b: &[u8], at: usize) -> u16 {
 }
 
 /// Bends the head or length of a sheet so that one of 10 to 14 or 20 to 25 applies.
-fn aim_head(rng: &mut Rng, number: u8, e: &mut Vec<u8>, a: &mut Vec<u8>) {
+pub fn aim_head(rng: &mut Rng, number: u8, e: &mut Vec<u8>, a: &mut Vec<u8>) {
     let version = rng.pick(&[0, 2, 256, 257, 65535]);
     match number {
         10 => e.truncate(rng.below(9)),
@@ -1202,7 +1202,7 @@ fn change_field(rng: &mut Rng, s: &mut Sheets) {
     }
 }
 
-fn change_byte(rng: &mut Rng, b: &mut [u8]) {
+pub fn change_byte(rng: &mut Rng, b: &mut [u8]) {
     if b.is_empty() {
         return;
     }
@@ -1215,7 +1215,7 @@ fn change_byte(rng: &mut Rng, b: &mut [u8]) {
     };
 }
 
-fn random_bytes(rng: &mut Rng, mark: &[u8; 3], head: usize, record: usize) -> Vec<u8> {
+pub fn random_bytes(rng: &mut Rng, mark: &[u8; 3], head: usize, record: usize) -> Vec<u8> {
     let long = rng.below(120);
     let mut b: Vec<u8> = (0..long).map(|_| rng.byte()).collect();
     if rng.percent(70) && b.len() >= head {

@@ -1,6 +1,8 @@
-//! The proved judge, readers, writers and list check, linked from the C static library.
+//! The proved judge of an answer and of a class, readers, writers and list check,
+//! linked from the C static library.
 #![allow(dead_code)]
 
+use crate::class::Row;
 use crate::judge::Verdict;
 use crate::plain::{CellRecord, Settings, Step};
 
@@ -17,6 +19,17 @@ extern "C" {
         route_len: usize,
         numbers: *mut u64,
     );
+    fn nurimkkot_mark_class(
+        settings: *const u8,
+        settings_len: usize,
+        exercise: *const u8,
+        exercise_len: usize,
+        class_sheet: *const u8,
+        class_len: usize,
+        rows: *mut Row,
+        count: usize,
+        filled: *mut usize,
+    ) -> u8;
     fn nurimkkot_open_exercise(exercise: *const u8, exercise_len: usize) -> u8;
     fn nurimkkot_open_answer(answer: *const u8, answer_len: usize) -> u8;
     fn nurimkkot_next_cell(
@@ -120,6 +133,49 @@ pub fn numbers(v: &Verdict) -> [u64; 7] {
         v.start,
         v.size,
     ]
+}
+
+/// Number and rows filled, as the library gives them.
+pub fn mark_class(
+    settings: &[u8],
+    exercise: &[u8],
+    class_sheet: &[u8],
+    rows: &mut [Row],
+) -> (u8, usize) {
+    // Rows filled between two guards.
+    let mut filled = [0xdead_beef; 3];
+    let number = unsafe {
+        nurimkkot_mark_class(
+            settings.as_ptr(),
+            settings.len(),
+            exercise.as_ptr(),
+            exercise.len(),
+            class_sheet.as_ptr(),
+            class_sheet.len(),
+            rows.as_mut_ptr(),
+            rows.len(),
+            filled.as_mut_ptr().add(1),
+        )
+    };
+    let [before, filled, after] = filled;
+    assert_eq!(
+        [before, after],
+        [0xdead_beef; 2],
+        "a number beside the rows filled"
+    );
+    (number, filled)
+}
+
+/// The row of one answer, by a single call.
+pub fn row(settings: &[u8], exercise: &[u8], answer: &[u8], route: &mut [u8]) -> Row {
+    let [number, cell, lab, apprentice, ..] =
+        judge(settings, exercise, answer, route).map(|n| n as u32);
+    Row {
+        number,
+        cell,
+        lab,
+        apprentice,
+    }
 }
 
 pub fn open_exercise(exercise: &[u8]) -> u8 {

@@ -1,4 +1,5 @@
-"""Compares what docs/SHEETS.md, docs/SAMPLES.md and docs/VERDICTS.md show with the files, the tool and the judge: pages.py TOP."""
+"""Compares what docs/SHEETS.md, docs/SAMPLES.md, docs/VERDICTS.md and docs/CLASS.md show with the files, the tool and the judge: pages.py TOP.
+LIBDIR: folder of libc_api.a."""
 
 import os
 import re
@@ -13,6 +14,7 @@ import sheets  # noqa: E402
 
 EXAMPLE = os.path.join(TOP, "target", "c", "example")
 PROGRAM = os.path.join(TOP, "target", "bin", "judge_main")
+LIBRARY = os.path.join(os.environ.get("LIBDIR") or os.path.join(TOP, "target", "staticlib"), "libc_api.a")
 
 
 def page(name):
@@ -72,6 +74,20 @@ def settings_field(name, field):
     return ", ".join(roles) or "nothing" if name.startswith("entry ") else answer_field(name, field)
 
 
+def class_on_page(text):
+    """The class sheet: its head, the small class, and the largest sheets."""
+    head, answer = [("mark", 3), ("version", 2)], [("mark", 3), ("version", 2), ("apprentice", 4), ("cells", 2)]
+    answer += [("cell %d, %s" % (i, name), 1) for i in range(2) for name in ("x", "y", "LE", "zero")]
+    names = taken_apart(text, "samples/class-small/class.lxc", lambda name, field: answer_field(name.split(", ")[-1], field))
+    assert names == head + [("answers", 2), ("answer 0, length", 2)] + [("answer 0, " + name, size) for name, size in answer] + [
+        ("answer 1, length", 2)], names
+    section = part(text, "## The class sheet", "\n## ")
+    assert [row[:2] + row[3:] for row in rows(section)] == [
+        ["0", "3", "76"], ["3", "2", "76"], ["5", "2", "76"], ["7", "2", "76"], ["9", "as the length says", ""]]
+    for length, words in ((65535, "The\nlargest class sheet has {:,} bytes"), (2059, "longer than a legal one, {:,}.")):
+        assert words.format(len(sheets.class_sheet(*[bytes(length)] * sheets.MAX_ANSWERS))) in section, length
+
+
 def boards_on_page(text):
     """The settings sheet: its two boards, its head and its flags, and what the judge makes of the listing on the second board."""
     entries = lambda count: [("entry %d" % i, 1) for i in range(count)]
@@ -96,6 +112,7 @@ def indented(text):
 def sheets_page():
     text = page("SHEETS.md")
     boards_on_page(text)
+    class_on_page(text)
     ports = lambda i, names: [("cell %d, %s" % (i, name), 2) for name in names]
     head = lambda i: [("cell %d, kind" % i, 1), ("cell %d, flag" % i, 1)]
     assert taken_apart(text, "samples/listing/exercise.lxe", exercise_field) == (
@@ -181,7 +198,37 @@ def limits_judged():
             assert listing.split()[1] == str(number) and told.split()[1] == str(number), (number, ex, an, listing)
 
 
-def commands(name):
+def copy_for_command(folder):
+    """A copy of what ./nurimkkot needs, with an rt that proves nothing: the program and the library are those that are there."""
+    for name in ("nurimkkot", "crates.txt"):
+        shutil.copy2(os.path.join(TOP, name), folder)
+    for name in ("tools", "samples", "boards"):
+        shutil.copytree(os.path.join(TOP, name), os.path.join(folder, name))
+    for name in ("target/bin", "target/staticlib", "target/stamp", "made-up"):
+        os.makedirs(os.path.join(folder, name))
+    shutil.copy2(PROGRAM, os.path.join(folder, "target", "bin"))
+    shutil.copy2(LIBRARY, os.path.join(folder, "target", "staticlib"))
+    with open(os.path.join(folder, "crates.txt")) as file:
+        crates = re.findall(r"^(\w+):", file.read(), re.M)
+    for crate in crates:
+        sheets.write(os.path.join(folder, "target", "stamp"), crate, "made up\n")
+    sheets.write(os.path.join(folder, "made-up"), "rt", "#!/bin/sh\n")
+    os.chmod(os.path.join(folder, "made-up", "rt"), 0o755)
+
+
+def class_commands():
+    """The commands of docs/CLASS.md and docs/SHEETS.md, one after the other. The first call links the library."""
+    with tempfile.TemporaryDirectory() as folder:
+        copy_for_command(folder)
+        path = os.path.join(folder, "made-up") + os.pathsep + os.environ["PATH"]
+        subprocess.run(["./nurimkkot", "class", "samples/class"], cwd=folder, capture_output=True, env=dict(os.environ, PATH=path))
+        ran = commands("CLASS.md", folder, path) + commands("SHEETS.md", folder, path)
+        with open(os.path.join(folder, "marks.csv"), "rb") as file:
+            assert file.read() == stored("samples/class/class.csv")
+    return ran
+
+
+def commands(name, top=TOP, path=os.environ["PATH"]):
     """Each command behind a dollar sign prints what stands below it."""
     ran, lines = 0, page(name).splitlines()
     for i, line in enumerate(lines):
@@ -189,11 +236,11 @@ def commands(name):
             continue
         shown = []
         for below in lines[i + 1:]:
-            if not below.startswith("    "):
+            if not below.startswith("    ") or below.startswith("    $ "):
                 break
             shown.append(below[4:])
-        done = subprocess.run(line[6:].replace("./example ", "target/c/example "), shell=True, cwd=TOP, text=True,
-                              capture_output=True, env=dict(os.environ, PYTHONDONTWRITEBYTECODE="1"))
+        done = subprocess.run(line[6:].replace("./example ", "target/c/example "), shell=True, cwd=top, text=True,
+                              capture_output=True, env=dict(os.environ, PYTHONDONTWRITEBYTECODE="1", PATH=path))
         assert done.returncode == 0 and not done.stderr, (line, done)
         assert done.stdout.splitlines() == shown, "%s: %s prints\n%s" % (name, line, done.stdout)
         ran += 1
@@ -223,7 +270,7 @@ def counter():
 
 def links():
     """Every page that is linked to is there."""
-    for name in ("SHEETS.md", "SAMPLES.md", "VERDICTS.md", "TABLET.md"):
+    for name in ("SHEETS.md", "SAMPLES.md", "VERDICTS.md", "TABLET.md", "CLASS.md"):
         for target in re.findall(r"\]\(([^)#]+)", page(name)):
             assert os.path.exists(os.path.join(TOP, "docs", target)), (name, target)
 
@@ -232,8 +279,8 @@ def main():
     sheets_page()
     limits_judged()
     boards_judged()
-    ran = commands("VERDICTS.md") + commands("SAMPLES.md")
-    assert ran >= 10, ran
+    ran = commands("VERDICTS.md") + commands("SAMPLES.md") + class_commands()
+    assert ran >= 20, ran
     assert page("SAMPLES.md").endswith("The number in brackets is the verdict.\n\n" + sheets.list_samples())
     counter()
     links()

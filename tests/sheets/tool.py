@@ -12,7 +12,7 @@ TOP = sys.argv[1]
 TOOL = os.path.join(TOP, "tools", "sheets.py")
 sys.path.insert(0, os.path.join(TOP, "tools"))
 import sheets  # noqa: E402
-from sheets import (ACLR, CLK, ENA, GND, OPEN, SCLR, SLOAD, VCC, Signal, answer, comb, exercise, inv, net, patch,  # noqa: E402
+from sheets import (ACLR, CLK, ENA, GND, OPEN, SCLR, SLOAD, VCC, Signal, answer, class_sheet, comb, exercise, inv, net, patch,  # noqa: E402
                     raw_answer, raw_exercise, raw_record, raw_settings, record, reg, save, settings, words)
 
 CELL = comb(a=net(0), o=net(1))
@@ -87,6 +87,10 @@ def numbers_refused():
     refused("a board is 0 to 65535, not 65536", lambda: settings(CLK, board=65536))
     refused("a board is 0 to 65535, not -1", lambda: settings(CLK, board=-1))
 
+    refused("an answer count is 0 to 32, not 33", lambda: class_sheet(*[b""] * 33))
+    refused("answer 1 is a sheet, not (2, 1, 0)", lambda: class_sheet(answer(1), (2, 1, 0)))
+    refused("the length of answer 0 is 0 to 65535, not 65536", lambda: class_sheet(bytes(65536)))
+
     # The raw forms ask only that a number fits.
     refused("a code is 0 to 65535, not 65536", lambda: raw_record(1, 0, [65536]))
     refused("a code is 0 to 65535, not 65536", lambda: comb(a=Signal(65536)))
@@ -118,6 +122,8 @@ def numbers_taken():
     assert settings(CLK + SLOAD, 0, 31, board=258) == b"LXT\2\0\3\2\1\x11\0\x1f" and len(settings(*[31] * 8, board=65535)) == 16
     assert raw_settings(3, 7, 255) == b"LXT\3\0\1\7\0\xff" and raw_settings(2, None, 1) == b"LXT\2\0\1\1"
     assert sheets.HOUSE == bytes.fromhex("4C5854010006010503120C18") and sheets.SECOND[:8] == b"LXT\2\0\x08\2\0"
+    assert class_sheet() == b"LXC\1\0\0\0" and class_sheet(b"", b"ab") == b"LXC\1\0\2\0\0\0\2\0ab"
+    assert class_sheet(*[bytes(65535)] * 32) == b"LXC\1\0\x20\0" + (b"\xff\xff" + bytes(65535)) * 32
     assert patch(bytes(3), 1, 7, 8) == b"\0\7\x08" and patch(bytes(3), 3) == bytes(3)
 
 

@@ -304,39 +304,43 @@ TAKEN = [
     ("kind,name\n1,é\n1,e\u0301\n1,GND\n1,/a\n1,net\n1,🙂\n1,a b\n1,A b\n", exercise(0, *[(1, 0, [0] * 11)] * 8)),
 ]
 
-LENGTH = "its length is not that of so many cells"
 BARE = (1, 0, [0] * 11)             # a cell with no connection
 DRIVES = (2, 0, [0] * 7 + [4, 0, 0, 0])     # a register that drives net 0
 
+COUNTS = "13: the exercise has more than 1024 nets or more than 512 cells"
+EXERCISE_LENGTH = "14: the length of the exercise is not that of so many cells"
+
 # Exercise sheets, and how csv refuses them.
 BAD_EXERCISES = [
-    (LISTING_LXE[:8], "10: it has under 9 bytes"), (b"lxe" + LISTING_LXE[3:], "11: it does not begin with LXE"),
-    (b"LXE\2\0" + LISTING_LXE[5:], "12: its version is not 1"), (exercise(1025), "13: it has more than 512 cells or more than 1024 nets"),
-    (exercise(0, *[BARE] * 513), "13: it has more than 512 cells or more than 1024 nets"), (LISTING_LXE[:9], "14: " + LENGTH),
-    (LISTING_LXE + b"\0", "14: " + LENGTH), (LISTING_LXE + b"\0" * 100000, "14: " + LENGTH), (exercise(0, *[BARE] * 512) + b"\0", "14: " + LENGTH),
-    (exercise(4, BARE, (1, 2, [0] * 11)), "15: the record of cell 1 breaks the layout"),
-    (exercise(4, DRIVES, BARE, DRIVES), "16: cell 2 drives a net that is driven already"),
+    (LISTING_LXE[:8], "10: the exercise has under 9 bytes"), (b"lxe" + LISTING_LXE[3:], "11: the exercise does not begin with LXE"),
+    (b"LXE\2\0" + LISTING_LXE[5:], "12: the version of the exercise is not 1"), (exercise(1025), COUNTS), (exercise(0, *[BARE] * 513), COUNTS),
+    (LISTING_LXE[:9], EXERCISE_LENGTH), (LISTING_LXE + b"\0", EXERCISE_LENGTH), (LISTING_LXE + b"\0" * 100000, EXERCISE_LENGTH),
+    (exercise(0, *[BARE] * 512) + b"\0", EXERCISE_LENGTH), (exercise(4, BARE, (1, 2, [0] * 11)), "15: a record breaks the layout (cell 1)"),
+    (exercise(4, DRIVES, BARE, DRIVES), "16: an output drives a net that is driven already (cell 2)"),
 ]
+
+ANSWER_LENGTH = "25: the length of the answer is not that of so many cells"
 
 # Answer sheets beside the exercise of the listing.
 BAD_ANSWERS = [
-    (b"", "20: it has under 11 bytes"), (b"LXE" + LISTING_LXA[3:], "21: it does not begin with LXA"),
-    (b"LXA\0\0" + LISTING_LXA[5:], "22: its version is not 1"), (answer(0, (1, 1, 1), (1, 1, 1)), "23: its apprentice is 0"),
-    (answer(7, (1, 1, 1)), "24: it has another number of cells than the exercise"), (LISTING_LXA[:-1], "25: " + LENGTH),
-    (LISTING_LXA + b"\0" * 100000, "25: " + LENGTH), (answer(7, (1, 1, 1), (1, 1, 16)), "26: the place of cell 1 is out of range"),
+    (b"", "20: the answer has under 11 bytes"), (b"LXE" + LISTING_LXA[3:], "21: the answer does not begin with LXA"),
+    (b"LXA\0\0" + LISTING_LXA[5:], "22: the version of the answer is not 1"), (answer(0, (1, 1, 1), (1, 1, 1)), "23: the apprentice is 0"),
+    (answer(7, (1, 1, 1)), "24: the cell count of the answer differs from that of the exercise"), (LISTING_LXA[:-1], ANSWER_LENGTH),
+    (LISTING_LXA + b"\0" * 100000, ANSWER_LENGTH), (answer(7, (1, 1, 1), (1, 1, 16)), "26: a place is out of range (cell 1)"),
 ]
 
-
-ENTRIES = "its length is not that of so many entries"
+SHORT = "70: the settings sheet has under 6 bytes"
+WRONG_VERSION = "72: the version of the settings sheet is neither 1 nor 2"
+ENTRIES = "73: the settings sheet has more than 8 entries"
+SETTINGS_LENGTH = "74: the length of the settings sheet is not that of so many entries"
 
 # Settings sheets, and how csv refuses them.
 BAD_SETTINGS = [
-    (b"", "70: it has under 6 bytes"), (BOARD_LXT[:5], "70: it has under 6 bytes"), (b"LXE" + BOARD_LXT[3:], "71: it does not begin with LXT"),
-    (settings(0, 0), "72: its version is neither 1 nor 2"), (settings(3, 0), "72: its version is neither 1 nor 2"),
-    (b"LXT\1\1" + BOARD_LXT[5:], "72: its version is neither 1 nor 2"), (settings(1, 0, *[1] * 9), "73: it has more than 8 entries"),
-    (b"LXT\2\0\11", "73: it has more than 8 entries"), (b"LXT\2\0\0", "74: " + ENTRIES), (b"LXT\2\0\0\0", "74: " + ENTRIES),
-    (BOARD_LXT[:-1], "74: " + ENTRIES), (BOARD_LXT + b"\0", "74: " + ENTRIES), (BOARD_LXT + b"\0" * 100000, "74: " + ENTRIES),
-    (settings(2, 0, *[31] * 8) + b"\0", "74: " + ENTRIES), (settings(2, 0, 1, 32), "75: an entry has a flag above the five roles"),
+    (b"", SHORT), (BOARD_LXT[:5], SHORT), (b"LXE" + BOARD_LXT[3:], "71: the settings sheet does not begin with LXT"),
+    (settings(0, 0), WRONG_VERSION), (settings(3, 0), WRONG_VERSION), (b"LXT\1\1" + BOARD_LXT[5:], WRONG_VERSION), (settings(1, 0, *[1] * 9), ENTRIES),
+    (b"LXT\2\0\11", ENTRIES), (b"LXT\2\0\0", SETTINGS_LENGTH), (b"LXT\2\0\0\0", SETTINGS_LENGTH), (BOARD_LXT[:-1], SETTINGS_LENGTH),
+    (BOARD_LXT + b"\0", SETTINGS_LENGTH), (BOARD_LXT + b"\0" * 100000, SETTINGS_LENGTH), (settings(2, 0, *[31] * 8) + b"\0", SETTINGS_LENGTH),
+    (settings(2, 0, 1, 32), "75: an entry of the settings sheet has a flag above the five roles"),
 ]
 
 
@@ -454,7 +458,7 @@ def which_files(place):
              ({"answer.csv": PLACES}, no_cells), ({"answer.csv": PLACES, "settings.csv": BOARD}, no_cells),
              ({"answer.csv": PLACES, "exercise.lxe": LISTING_LXE}, "answer.csv, line 3, column 1 (cell): there is no cell 'state'"),
              ({"answer.csv": "apprentice,7\ncell,x,y,le\n0,1,1,1\n", "exercise.lxe": LISTING_LXE}, "answer.csv: cell 1 ('c1') has no place"),
-             ({"answer.csv": PLACES, "exercise.lxe": b""}, "exercise.lxe is refused with 10: it has under 9 bytes")]
+             ({"answer.csv": PLACES, "exercise.lxe": b""}, "exercise.lxe is refused with 10: the exercise has under 9 bytes")]
     for files, line in wrong:
         place.fill(files)
         said = place.refusal(csv_sheets.write)

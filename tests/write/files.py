@@ -12,6 +12,7 @@ import sys
 import time
 
 import csv_sheets
+import shared
 from cases import BOARD, BOARD_LXT, LISTING, LISTING_LXA, LISTING_LXE, PLACES
 
 OLD = {"exercise.lxe": b"old exercise", "answer.lxa": b"old answer", "settings.lxt": b"old settings"}
@@ -43,7 +44,7 @@ class Interrupt(BaseException):
 
 def ended(place, verb, system):
     """How a verb ends on such a system."""
-    csv_sheets.os = system
+    shared.os = system
     try:
         verb(place.library, place.folder)
     except csv_sheets.Refused as why:
@@ -52,7 +53,7 @@ def ended(place, verb, system):
     except Interrupt:
         return "interrupted"
     finally:
-        csv_sheets.os = os
+        shared.os = os
     return "done"
 
 
@@ -89,9 +90,9 @@ def failures(place):
     # No room for a copy of what is there.
     for count in (1, 2, 3):
         place.fill({**CSV, **OLD})
-        csv_sheets.shutil = FailingSystem(("copy2",), count, full, shutil)
+        shared.shutil = FailingSystem(("copy2",), count, full, shutil)
         assert ended(place, csv_sheets.write, os) == "refused" and place.found() == {**CSV, **OLD}
-        csv_sheets.shutil = shutil
+        shared.shutil = shutil
         tried += 1
     # A CSV file that comes there meanwhile stays.
     for name in CSV:
@@ -126,18 +127,18 @@ def wrong_bytes(place):
                 assert said and len(said) == 1 and place.found() == before, (function, at, said)
                 tried += 1
             delattr(library, function)
-    read = csv_sheets.read_bytes
+    read = shared.read_bytes
     for sheet in SHEETS.values():
         for at in range(len(sheet)):
             def other(file, most):
                 data = read(file, most)
                 return data[:at] + bytes([data[at] ^ 128]) + data[at + 1:] if data[:3] == sheet[:3] else data
-            csv_sheets.read_bytes = other
+            shared.read_bytes = other
             place.fill({**CSV, **OLD})
             said = place.refusal(csv_sheets.write)
             assert said and place.found() == {**CSV, **OLD}, (at, said)
             tried += 1
-    csv_sheets.read_bytes = read
+    shared.read_bytes = read
     # A refusal to which no table leads is told by its number.
     library.write_settings, said = lambda *words: (75, b""), None
     try:
@@ -260,10 +261,10 @@ def interrupted(place):
         call = [sys.executable, "-I", "-B", os.path.join(place.top, "tools", "csv_sheets.py"), "write", place.shared_object, place.folder]
         # A test that runs in the background may be started with SIGINT ignored, and the script leaves an ignored signal ignored.
         process = subprocess.Popen(call, stdout=subprocess.PIPE, stderr=subprocess.PIPE,
-                                   preexec_fn=lambda: [signal.signal(n, signal.SIG_DFL) for n in csv_sheets.STOPPING])
+                                   preexec_fn=lambda: [signal.signal(n, signal.SIG_DFL) for n in shared.STOPPING])
         # Until the script catches the last of its signals: signal n is bit n - 1.
         caught = 0
-        while process.poll() is None and not caught >> (csv_sheets.STOPPING[-1] - 1) & 1:
+        while process.poll() is None and not caught >> (shared.STOPPING[-1] - 1) & 1:
             time.sleep(0.01)
             with open("/proc/%d/status" % process.pid) as file:
                 caught = int(next(line for line in file if line.startswith("SigCgt:")).split()[1], 16)
@@ -275,20 +276,20 @@ def interrupted(place):
     # One that comes while the files get their names is forgotten, and so is one that comes after.
     place.fill({**CSV, **OLD})
     here = os.getpid()
-    csv_sheets.os = FailingSystem((), 0, None)
-    csv_sheets.os.replace = lambda made, path: (os.kill(here, signal.SIGTERM), os.replace(made, path))
+    shared.os = FailingSystem((), 0, None)
+    shared.os.replace = lambda made, path: (os.kill(here, signal.SIGTERM), os.replace(made, path))
     assert ended_by_itself(place) and place.found() == {**CSV, **SHEETS}
     return 4
 
 
 def ended_by_itself(place):
-    before = signal.signal(signal.SIGTERM, csv_sheets.stop)
-    csv_sheets.placed.clear()
+    before = signal.signal(signal.SIGTERM, shared.stop)
+    shared.placed.clear()
     try:
         csv_sheets.write(place.library, place.folder)
         os.kill(os.getpid(), signal.SIGTERM)
     finally:
-        csv_sheets.os = os
+        shared.os = os
         signal.signal(signal.SIGTERM, before)
     return True
 

@@ -61,7 +61,7 @@ def example_board(place, text):
     assert "".join(line + "\n" for line in lines) in shown(text), lines
     assert all(place.found()[name] == sample[name] for name in csv_sheets.SHEETS), place.found()
     assert sample["listing.txt"].decode() in shown(text)
-    number, _, apprentice = place.library.judge(sample["exercise.lxe"], sample["answer.lxa"])
+    number, _, _, apprentice = place.library.judge(sample["exercise.lxe"], sample["answer.lxa"])
     assert "verdict %d cell - lab 34 apprentice %d\n" % (number, apprentice) in shown(text), number
 
 

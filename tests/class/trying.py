@@ -1,0 +1,91 @@
+"""What all tests of tools/class_sheets.py use: the library, a folder to try things in, and ways to call the script."""
+
+import os
+import shutil
+import subprocess
+import sys
+
+import class_sheets
+import sheets
+import shared
+
+# The worked listing: two cells, and its answer by apprentice 7.
+EXERCISE, ANSWER = sheets.LISTING_EX, sheets.LISTING_AN
+
+
+def by(apprentice):
+    """The same answer by another apprentice."""
+    return sheets.patch(ANSWER, 5, *apprentice.to_bytes(4, "little"))
+
+
+class Place:
+    """The repository, the library, and a folder for files. said has all lines of standard error, without the command's name."""
+
+    def __init__(self, top, work):
+        self.top, self.shared_object = top, os.path.join(work, "libnurimkkot.so")
+        self.library = class_sheets.Library(self.shared_object)
+        self.folder = os.path.join(work, "folder")
+        self.said = []
+
+    def path(self, name):
+        return os.path.join(self.folder, os.fsdecode(name))
+
+    def fill(self, files):
+        """Makes the folder anew, with these files."""
+        shutil.rmtree(self.folder, ignore_errors=True)
+        os.mkdir(self.folder)
+        for name, data in files.items():
+            with open(self.path(name), "wb") as file:
+                file.write(data)
+
+    def found(self):
+        """The files in the folder."""
+        found = {}
+        for name in os.listdir(self.folder):
+            with open(self.path(name), "rb") as file:
+                found[name] = file.read()
+        return found
+
+    def stored(self, *path):
+        """A file of the repository."""
+        with open(os.path.join(self.top, *path), "rb") as file:
+            return file.read()
+
+    def run(self, verb, *options, **how):
+        """Runs the script as a program: status, standard output, lines on standard error."""
+        call = [sys.executable, "-I", "-B", os.path.join(self.top, "tools", "class_sheets.py"), verb, self.shared_object, self.folder, *options]
+        done = subprocess.run(call, stdout=how.pop("stdout", subprocess.PIPE), stderr=subprocess.PIPE, timeout=60, **how)
+        lines = done.stderr.decode().splitlines()
+        assert all(line.startswith("nurimkkot: ") and line.isprintable() for line in lines), lines
+        self.said += [line[len("nurimkkot: "):] for line in lines]
+        return done.returncode, done.stdout, lines
+
+    def refused(self, *words, **how):
+        """The one line with which the script refuses as a program, without the command's name. Nothing is on standard output."""
+        status, out, lines = self.run(*words, **how)
+        assert status == 2 and not out and len(lines) == 1, (words, status, out, lines)
+        return lines[0][len("nurimkkot: "):]
+
+    def refusal(self, work, *words):
+        """The one line with which a function of the script refuses, or None where it does not."""
+        try:
+            work(self.library, self.folder, *words)
+        except shared.Refused as why:
+            assert len(why.lines) == 1, why.lines
+            self.said += why.lines
+            return why.lines[0]
+        return None
+
+    def rows(self, *options, **how):
+        """The rows of the class sheet in the folder, as the script writes them with --csv: lists of fields."""
+        status, out, lines = self.run("mark", "--csv", *options, **how)
+        assert status == 0 and not lines and out.endswith(b"\n"), (status, out, lines)
+        heading, *rows = out.decode().splitlines()
+        assert heading == "row,apprentice,verdict,cell,lab,meaning", heading
+        return [row.split(",") for row in rows]
+
+
+def row(number, verdict):
+    """The row that a verdict has with --csv."""
+    none = lambda value: "" if value == 65535 else str(value)
+    return [str(number), str(verdict.apprentice), str(verdict.number), none(verdict.cell), none(verdict.lab), shared.MEANING[verdict.number]]
