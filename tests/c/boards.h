@@ -1,4 +1,4 @@
-/* What guard.c, forms.c and settings.c share: settings sheets, and the number that refuses one, said plainly. */
+/* What guard.c, forms.c, settings.c and class.c share: settings sheets, and the number that refuses one, said plainly. */
 #ifndef NURIMKKOT_TESTS_BOARDS_H
 #define NURIMKKOT_TESTS_BOARDS_H
 

@@ -4,6 +4,7 @@
  * are marked in classes, beside their own exercise and beside others'. */
 #include "boards.h"
 #include "classes.h"
+#include "chance.h"
 #include "../../c/sheet_files.h"
 
 #define MOST NURIMKKOT_MOST_ANSWERS
@@ -610,16 +611,6 @@ static void in_a_row(void)
 }
 
 /* ---- class sheets that look random, and those of the samples */
-
-/* Numbers that look random, the same in each run. */
-static uint32_t chance(uint32_t below)
-{
-    static uint64_t state = 88172645463325252u;
-    state ^= state << 13;
-    state ^= state >> 7;
-    state ^= state << 17;
-    return (uint32_t)((state >> 16) % below);
-}
 
 /* Classes of any of the answers; some with another byte, cut or longer, or without enough rows. */
 static void random_classes(void)

@@ -2,22 +2,13 @@
  * in their order, and every byte of what is written. The sheet stands between guards and then in a block of its own, the records always in
  * one, and what was written is read back (writers.h). */
 #include "writers.h"
+#include "chance.h"
 
 /* As many records as any case here has. */
 #define MOST 100000
 
 static struct nurimkkot_cell cells[MOST];
 static uint16_t places[3 * MOST];
-
-/* Numbers that look random, the same in each run. */
-static uint32_t chance(uint32_t below)
-{
-    static uint64_t state = 88172645463325252u;
-    state ^= state << 13;
-    state ^= state >> 7;
-    state ^= state << 17;
-    return (uint32_t)((state >> 16) % below);
-}
 
 /* A cell of a kind with nothing connected. */
 static struct nurimkkot_cell open_cell(uint8_t kind)

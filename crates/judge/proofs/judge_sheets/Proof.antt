@@ -1,7 +1,6 @@
 -- 1 where the route buffer has another length, otherwise what the first broken check finds; the route is touched only in the latter case.
 use Rattle.judge.specs.Call.{call}
 use Rattle.judge.specs.Judge.{verdictOf}
-use Rattle.judge.specs.declared.Finding.{Finding}
 use Rattle.judge.proofs.Preparing.{judge-room, judge-done}
 use mathlib.Core.Path.{ap, _∙_}
 use lib.ListN.{length}
