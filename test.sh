@@ -11,7 +11,7 @@ done
 rt fmt --check || { echo "test.sh: run 'rt fmt'"; exit 1; }
 
 log=$(mktemp) || exit 2
-trap 'rm -f "$log"' EXIT
+trap 'kill $(jobs -p) 2> /dev/null; rm -f "$log"' EXIT
 # More at a time than there are cores: rt waits for all of a batch, and a short check leaves its core to a long one.
 RT_JOBS=${RT_JOBS:-4} rt ci 2>&1 | tee "$log"
 [ "${PIPESTATUS[0]}" -eq 0 ] || exit 1
@@ -22,7 +22,14 @@ case $verdict in
 esac
 
 rt staticlib c_api > "$log" 2>&1 || { tail -n 20 "$log"; echo "test.sh: the C library was not built"; exit 1; }
+# The tests of the command take the longest, one short program after the other, so the other tests run beside them.
+long=tests/command/run
+"$long" > "$log" 2>&1 &
 for check in tests/*/run; do
-  "$check" || { echo "test.sh: $check failed"; exit 1; }
+  [ "$check" = "$long" ] || "$check" || { echo "test.sh: $check failed"; exit 1; }
 done
+wait $!
+status=$?
+cat "$log"
+[ "$status" -eq 0 ] || { echo "test.sh: $long failed"; exit 1; }
 echo "$verdict"

@@ -1,5 +1,5 @@
 -- The walk over a class sheet: where the lengths stand, and the rows that are stored. Assumes nothing.
-use Prim.Native.Nat.{ℕ, suc, _+_, _*_, _≤_, _<_, _^_}
+use Prim.Native.Nat.{ℕ, suc, _+_, _*_, _≤_, _<_}
 use native.Mathlib.Numerals.{add-one}
 use native.Mathlib.Omega.{arith}
 use mathlib.Core.Path.{_≡_, refl, sym, ap, _∙_}
@@ -36,9 +36,6 @@ unfolding startOf
 walk-starts k count = record { within = omega arith; stands = refl; low = omega arith }
 
 module _ (k : List ℕ) (count i at : ℕ) (w : Walked k count i at) where
-  pub walk-low : count < 65536 → at < 2 ^ 40
-  walk-low h = omega (arith, w .within, w .low)
-
   pub walk-goes : (next : ℕ) → i < count → next ≡ at + 2 + u16At k at → next ≤ at + 65537 → Walked k count (i + 1) next
   unfolding startOf
   walk-goes next h q m = record { within = omega arith; stands = rw add-one (q ∙ rw (w .stands)); low = omega (arith, w .low) }

@@ -1,5 +1,6 @@
 -- The rows are copied to the route buffer only where no LAB is broken.
 use denote.Ref.{now}
+use native.Mathlib.Omega.{arith}
 use mathlib.Core.Path.{sym, _∙_}
 use Rattle.judge.proofs.Preparing.{rows-size, route-stays, route-goes}
 use borrow.Author.Needs.{needs}
@@ -10,7 +11,7 @@ returns : tie.Need-returns
 returns c =
     let l = c .before .before in
     let s = l .before .before .before .before .before in
-    route-stays (s .args .table) (now (s .args .exercise)) (now (s .args .answer)) (now (s .args .route)) _ (l .lab-finding .ensures .0) (c .if1 .taken)
+    route-stays (s .args .table) (now (s .args .exercise)) (now (s .args .answer)) (now (s .args .route)) _ (l .lab-finding .ensures .0) (λ z. omega (arith, z, c .if1 .taken))
 
 copy-requires : tie.Need-copy-requires
 copy-requires c κs =
@@ -24,7 +25,7 @@ returns-2 c =
     let i = o .before .before .before in
     let l = i .before .before in
     let s = l .before .before .before .before .before in
-    route-goes (s .args .table) (now (s .args .exercise)) (now (s .args .answer)) (now (s .args .route)) _ (l .lab-finding .ensures .0) _ _ (i .if1 .left)
+    route-goes (s .args .table) (now (s .args .exercise)) (now (s .args .answer)) (now (s .args .route)) _ (l .lab-finding .ensures .0) _ _ (omega (arith, i .if1 .left))
     (l .lab-finding .ensures .1) (o .copy .ensures)
 
 pub judge-labs-spec : {M : Type 1} → statement M
