@@ -8,6 +8,7 @@ use borrow.Author.Tests.{lt-leb}
 use Rattle.sheet.specs.Lists.{anyb, below}
 use Rattle.sheet.specs.Bytes.{byteAt}
 use Rattle.sheet.proofs.Scan.{none-at}
+use Rattle.sheet.proofs.Lists.{table-length}
 use Rattle.sheet.proofs.Checks.{all-held}
 use Rattle.exercise.specs.Exercise.{cellCount}
 use Rattle.exercise.specs.Record.{recordValues, isMalformed}
@@ -25,7 +26,7 @@ use Rattle.settings.specs.Settings.{flags, settingsNumbers, settingsEntries}
 use Rattle.settings.proofs.Laws.{passed, flags-length}
 use Rattle.route.specs.Table.{ENTRIES}
 use Rattle.writer.specs.Boards.{boardOf, SettingsPass}
-use Rattle.writer.proofs.Again.{table-length, table-at}
+use Rattle.writer.proofs.Again.{table-at}
 use Rattle.c_api.specs.Told.{cellTold, cellFields, placeTold, placeFields}
 use Rattle.c_api.specs.Circle.{CellsRead, PlacesRead, BoardRead, Circle}
 

@@ -11,7 +11,7 @@ use lib.Seq.{sets, sets-eq, length-sets}
 use borrow.Author.Tests.{ne-eqb, ltb-false}
 use Rattle.sheet.specs.Lists.{below}
 use Rattle.sheet.specs.Bytes.{u16At, partAt}
-use Rattle.sheet.proofs.Lists.{below-suc, below-length, sets-append}
+use Rattle.sheet.proofs.Lists.{map-suc, table-length, sets-append}
 use Rattle.sheet.proofs.Checks.{all-held}
 use Rattle.route.specs.Table.{Table, eightRows}
 use Rattle.settings.specs.Settings.{tableOf}
@@ -50,22 +50,12 @@ lengths-told k count i at w h c = rw (walk-all k count i at w h, c)
 
 -- ---- after i answers their rows are stored
 module _ (row : ℕ → List ℕ) where
-  map-last : (xs : List ℕ) (x : ℕ) → map row (xs ++ (x ∷ [])) ≡ map row xs ++ (row x ∷ [])
-  map-last [] x = refl
-  map-last (y ∷ ys) x = ap (λ (rs : List (List ℕ)). row y ∷ rs) (map-last ys x)
-
-  one-more : (i : ℕ) → map row (below (suc i)) ≡ map row (below i) ++ (row i ∷ [])
-  one-more i = ap (map row) (below-suc i) ∙ map-last (below i) i
-
-  rows-length : (i : ℕ) → length (map row (below i)) ≡ i
-  rows-length i = length-map (below i) row ∙ below-length i
-
   -- the row of the next answer is stored behind them
   store-next : (lent : List (List ℕ)) (i : ℕ) → set (sets lent 0 (map row (below i))) i (row i) ≡ sets lent 0 (map row (below (suc i)))
   store-next lent i =
       let behind = sets-append lent 0 (map row (below i)) (row i ∷ []) in
-      let here : 0 + length (map row (below i)) ≡ i = omega (arith, rows-length i) in
-      (rw here at behind) ∙ ap (λ (rs : List (List ℕ)). sets lent 0 rs) (sym (one-more i))
+      let here : 0 + length (map row (below i)) ≡ i = omega (arith, table-length row i) in
+      (rw here at behind) ∙ ap (λ (rs : List (List ℕ)). sets lent 0 rs) (sym (map-suc row i))
 
 pub record Stored (row : ℕ → List ℕ) (k : List ℕ) (lent : List (List ℕ)) (count i at : ℕ) (rows : List (List ℕ)) : Type 0 where
   pub walked : Walked k count i at
@@ -126,7 +116,7 @@ module _ (s e k : List ℕ) (lent : List (List ℕ)) (n : ℕ) (x : n ≡ refusa
 
   rows-count : length (rowsOf s e k) ≡ answerCount k
   unfolding rowsOf answersOn
-  rows-count = length-map (map (answerOf k) (below (answerCount k))) (rowOf s e) ∙ rows-length (answerOf k) (answerCount k)
+  rows-count = length-map (map (answerOf k) (below (answerCount k))) (rowOf s e) ∙ table-length (answerOf k) (answerCount k)
 
   rows-are : n ≡ 0 → sets lent 0 (rowsOf s e k) ≡ rowsOf s e k ++ drop (length (rowsOf s e k)) lent
   rows-are h =

@@ -1,24 +1,22 @@
 -- A class sheet and the list of its answers say the same: the sheet of a list is read as this list, and a sheet that passes is that of the answers that are
 -- read from it. Assumes nothing.
-use Prim.Native.Nat.{ℕ, zero, suc, _+_, _/_, _%_, _≤_, _<_}
+use Prim.Native.Nat.{ℕ, zero, suc, _+_, _≤_, _<_}
 use native.Mathlib.Nat.{add-zero, zero-add}
 use native.Mathlib.Omega.{arith}
 use mathlib.Core.Path.{_≡_, refl, sym, ap, _∙_}
-use mathlib.Core.Bool.{false, _&&_}
+use mathlib.Core.Bool.{false}
 use mathlib.Core.List.{List, [], _∷_, _++_, map}
-use lib.ListN.{length, drop, length-append, length-drop, length-map, take-append-drop}
+use lib.ListN.{length, drop, length-append, length-drop, take-append-drop}
 use lib.Seq.{length-take-le, drop-length, drop-cons, drop-drop, getD-drop, take-append-seam, drop-append-seam}
-use lib.Dec.{eqb}
 use borrow.Author.Tests.{eqb-true, eq-eqb, ltb-false, le-ltb, not-false}
 use Rattle.sheet.specs.Lists.{Every, concatMap, from, below}
-use Rattle.sheet.specs.Bytes.{byteAt, u16At, u16Bytes}
+use Rattle.sheet.specs.Bytes.{byteAt, u16At, u16Bytes, AllBytes}
 use Rattle.sheet.specs.Header.{wrongMark, wrongVersion}
-use Rattle.sheet.proofs.Laws.{and-parts}
-use Rattle.sheet.proofs.Lists.{below-length}
+use Rattle.sheet.proofs.Lists.{table-length}
+use Rattle.sheet.proofs.Again.{two-again, version-1, mark-again}
 use Rattle.sheet.proofs.Checks.{none-broken, all-held}
-use Rattle.judge.proofs.Numbers.{every-append}
 use Rattle.class.specs.Class.{MOST, answerCount, startOf, answerOf, answersOn, wrongLengths, classChecks, refusal}
-use Rattle.class.specs.Packed.{afterLength, classSheet, Bytes, ClassSheets}
+use Rattle.class.specs.Packed.{afterLength, classSheet, ClassSheets}
 
 -- from the length of answer i on, the sheet holds these answers, each after its length, and no more
 record Left (k : List ℕ) (i : ℕ) (answers : List (List ℕ)) : Type 0 where
@@ -89,50 +87,43 @@ module _ (answers : List (List ℕ)) where
   )
 
 -- its bytes
-abbrev isByte : ℕ → Type 0
-isByte b = b < 256
+bytes-append : (xs ys : List ℕ) → AllBytes xs → AllBytes ys → AllBytes (xs ++ ys)
+bytes-append [] ys f g i = g i
+bytes-append (x ∷ xs) ys f g zero = f 0
+bytes-append (x ∷ xs) ys f g (suc i) = bytes-append xs ys (λ j. f (suc j)) g i
 
-number-bytes : (n : ℕ) → n < 65536 → Bytes (u16Bytes n)
-number-bytes n h = (omega arith, (omega arith, tt))
+number-bytes : (n : ℕ) → n < 65536 → AllBytes (u16Bytes n)
+number-bytes n h zero = omega arith
+number-bytes n h (suc zero) = omega arith
+number-bytes n h (suc (suc i)) = omega arith
 
-answers-bytes : (answers : List (List ℕ)) → Every (λ a. (length a < 65536) × Bytes a) answers → Bytes (concatMap afterLength answers)
-answers-bytes [] h = tt
+answers-bytes : (answers : List (List ℕ)) → Every (λ a. (length a < 65536) × AllBytes a) answers → AllBytes (concatMap afterLength answers)
+answers-bytes [] h = λ i. omega arith
 answers-bytes (a ∷ rest) h =
-    every-append isByte (afterLength a) (concatMap afterLength rest) (every-append isByte (u16Bytes (length a)) a (number-bytes (length a) (h .0 .0)) (h .0 .1)) (answers-bytes rest (h .1))
+    bytes-append (afterLength a) (concatMap afterLength rest) (bytes-append (u16Bytes (length a)) a (number-bytes (length a) (h .0 .0)) (h .0 .1)) (answers-bytes rest (h .1))
 
-sheet-bytes : (answers : List (List ℕ)) → length answers ≤ MOST → Every (λ a. (length a < 65536) × Bytes a) answers → Bytes (classSheet answers)
+mark-bytes : AllBytes (76 ∷ 88 ∷ 67 ∷ [])
+mark-bytes zero = omega arith
+mark-bytes (suc zero) = omega arith
+mark-bytes (suc (suc zero)) = omega arith
+mark-bytes (suc (suc (suc i))) = omega arith
+
+sheet-bytes : (answers : List (List ℕ)) → length answers ≤ MOST → Every (λ a. (length a < 65536) × AllBytes a) answers → AllBytes (classSheet answers)
 unfolding classSheet
-sheet-bytes answers few h = (
-  omega arith,
-  (
-    omega arith,
-    (
-      omega arith,
-      (
-        omega arith,
-        (
-          omega arith,
-          every-append isByte (u16Bytes (length answers)) (concatMap afterLength answers) (number-bytes (length answers) (omega arith)) (answers-bytes answers h),
-        ),
-      ),
-    ),
-  ),
-)
+sheet-bytes answers few h =
+    let all = concatMap afterLength answers in
+    let counted = bytes-append (u16Bytes (length answers)) all (number-bytes (length answers) (omega arith)) (answers-bytes answers h) in
+    let versioned = bytes-append (u16Bytes 1) (u16Bytes (length answers) ++ all) (number-bytes 1 (omega arith)) counted in
+    bytes-append (76 ∷ 88 ∷ 67 ∷ []) (u16Bytes 1 ++ (u16Bytes (length answers) ++ all)) mark-bytes versioned
 
 -- ---- packing: where bytes are left, the length in front of an answer and the answer are what is packed again
-byte-fits : (k : List ℕ) → Bytes k → (i : ℕ) → byteAt k i < 256
-byte-fits [] h i = omega arith
-byte-fits (b ∷ k) h zero = h .0
-byte-fits (b ∷ k) h (suc i) = byte-fits k (h .1) i
-
-module _ (k : List ℕ) (bytes : Bytes k) where
+module _ (k : List ℕ) (bytes : AllBytes k) where
   number-again : (at : ℕ) → at + 2 ≤ length k → drop at k ≡ u16Bytes (u16At k at) ++ drop (at + 2) k
   number-again at h =
-      let low : u16At k at % 256 ≡ byteAt k at = omega (arith, byte-fits k bytes at) in
-      let high : u16At k at / 256 ≡ byteAt k (at + 1) = omega (arith, byte-fits k bytes at) in
       let one : at + 1 ≡ suc at = omega arith in
       let two : at + 2 ≡ suc (suc at) = omega arith in
-      rw (low, high, two, one, drop-cons k at 0 (omega arith), drop-cons k (suc at) 0 (omega arith))
+      let read : drop at k ≡ byteAt k at ∷ byteAt k (at + 1) ∷ drop (at + 2) k = rw (two, one, drop-cons k at 0 (omega arith), drop-cons k (suc at) 0 (omega arith)) in
+      read ∙ sym (two-again k at bytes refl)
 
   one-more : (i : ℕ) (rest : List (List ℕ)) → Left k (suc i) rest → Left k i (answerOf k i ∷ rest)
   unfolding startOf answerOf
@@ -152,24 +143,22 @@ module _ (k : List ℕ) (bytes : Bytes k) where
       let next : suc i + n ≡ i + suc n = omega arith in
       one-more i (map (answerOf k) (from (suc i) n)) (all-again n (suc i) (rw next ends))
 
-  mark-again : 7 ≤ length k → wrongMark 67 k ≡ false → k ≡ 76 ∷ 88 ∷ 67 ∷ drop 3 k
-  unfolding wrongMark
-  mark-again long m =
-      let (lx, c) = and-parts (eqb (byteAt k 0) 76 && eqb (byteAt k 1) 88) (eqb (byteAt k 2) 67) (not-false _ m) in
-      let (l, x) = and-parts (eqb (byteAt k 0) 76) (eqb (byteAt k 1) 88) lx in
+  front-read : 7 ≤ length k → k ≡ byteAt k 0 ∷ byteAt k 1 ∷ byteAt k 2 ∷ byteAt k 3 ∷ byteAt k 4 ∷ drop 5 k
+  front-read long =
       drop-cons k 0 0 (omega arith)
-      ∙ rw (drop-cons k 1 0 (omega arith), drop-cons k 2 0 (omega arith), eqb-true (byteAt k 0) 76 l, eqb-true (byteAt k 1) 88 x, eqb-true (byteAt k 2) 67 c)
+      ∙ rw (drop-cons k 1 0 (omega arith), drop-cons k 2 0 (omega arith), drop-cons k 3 0 (omega arith), drop-cons k 4 0 (omega arith))
 
   sheet-again : (rows : ℕ) → refusal k rows ≡ 0 → k ≡ classSheet (answersOn k)
-  unfolding refusal wrongVersion wrongLengths startOf answersOn classSheet
+  unfolding refusal wrongLengths startOf answersOn classSheet
   sheet-again rows h =
       let (short, (mark, (version, (few, (lengths, enough))))) = all-held (classChecks k rows) refl h in
       let long = ltb-false (length k) 7 short in
       let ends = eqb-true (startOf k (answerCount k)) (length k) (not-false _ lengths) in
       let all = all-again (answerCount k) 0 (rw zero-add ends) in
-      let count = length-map (below (answerCount k)) (answerOf k) ∙ below-length (answerCount k) in
-      mark-again long mark
-      ∙ rw (number-again 3 (omega arith), eqb-true (u16At k 3) 1 (not-false _ version), number-again 5 (omega arith), count, all .left)
+      let count = table-length (answerOf k) (answerCount k) in
+      let rest : drop 5 k ≡ u16Bytes (length (map (answerOf k) (below (answerCount k)))) ++ concatMap afterLength (map (answerOf k) (below (answerCount k)))
+      = rw (number-again 5 (omega arith), count, all .left) in
+      front-read long ∙ sym (mark-again 67 1 k bytes mark (version-1 k version) (sym rest))
 
 pub class-sheets : ClassSheets
 class-sheets = record {

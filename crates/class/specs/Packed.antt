@@ -4,7 +4,7 @@ use mathlib.Core.Path.{_≡_}
 use mathlib.Core.List.{List, _∷_, _++_}
 use lib.ListN.{length}
 use Rattle.sheet.specs.Lists.{Every, concatMap}
-use Rattle.sheet.specs.Bytes.{u16Bytes}
+use Rattle.sheet.specs.Bytes.{u16Bytes, AllBytes}
 use Rattle.class.specs.Class.{MOST, answersOn, refusal}
 
 -- "then each answer after its own 16-bit length"
@@ -15,15 +15,11 @@ afterLength a = u16Bytes (length a) ++ a
 unfoldable pub classSheet : List (List ℕ) → List ℕ
 classSheet answers = 76 ∷ 88 ∷ 67 ∷ (u16Bytes 1 ++ (u16Bytes (length answers) ++ concatMap afterLength answers))
 
--- a list of bytes
-abbrev pub Bytes : List ℕ → Type 0
-Bytes xs = Every (λ b. b < 256) xs
-
 pub record ClassSheets : Type 0 where
   -- at most 32 answers of bytes, whose lengths 16 bits can hold, have a sheet of bytes
-  pub are-bytes : (answers : List (List ℕ)) → length answers ≤ MOST → Every (λ a. (length a < 65536) × Bytes a) answers → Bytes (classSheet answers)
+  pub are-bytes : (answers : List (List ℕ)) → length answers ≤ MOST → Every (λ a. (length a < 65536) × AllBytes a) answers → AllBytes (classSheet answers)
   -- their sheet passes where there are rows enough, and is read as these answers
   pub reads-back : (answers : List (List ℕ)) → length answers ≤ MOST
       → (refusal (classSheet answers) (length answers) ≡ 0) × (answersOn (classSheet answers) ≡ answers)
   -- bytes that pass are the sheet of the answers that are read from them
-  pub packed-again : (k : List ℕ) (rows : ℕ) → Bytes k → refusal k rows ≡ 0 → k ≡ classSheet (answersOn k)
+  pub packed-again : (k : List ℕ) (rows : ℕ) → AllBytes k → refusal k rows ≡ 0 → k ≡ classSheet (answersOn k)

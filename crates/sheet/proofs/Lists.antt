@@ -2,10 +2,10 @@
 use Prim.Native.Nat.{ℕ, zero, suc, _+_, _≤_, _<_}
 use mathlib.Core.Path.{_≡_, refl, sym, ap, _∙_}
 use mathlib.Core.Bool.{Bool, true, false, _&&_, _||_, or-assoc, or-false, or-true, true≢false}
-use mathlib.Core.List.{List, [], _∷_, _++_, append-assoc, append-nil}
+use mathlib.Core.List.{List, [], _∷_, _++_, map, append-assoc, append-nil, map-append}
 use native.Mathlib.Nat.{zero-add}
 use native.Mathlib.Omega.{arith}
-use lib.ListN.{length, getD, set, replicate}
+use lib.ListN.{length, getD, set, replicate, length-map}
 use lib.Seq.{sets}
 use lib.Dec.{eqb}
 use borrow.Author.Tests.{eqb-true, eqb-false, eq-eqb, ne-eqb}
@@ -103,6 +103,9 @@ any-suc p n = ap (anyb p) (below-suc n) ∙ any-append p (below n) (n ∷ []) �
 pub concat-suc : {B : Type 0} (f : ℕ → List B) (n : ℕ) → concatMap f (below (suc n)) ≡ concatMap f (below n) ++ f n
 concat-suc f n = ap (concatMap f) (below-suc n) ∙ concat-append f (below n) (n ∷ []) ∙ rw (append-nil (f n))
 
+pub map-suc : {A : Type 0} (g : ℕ → A) (n : ℕ) → map g (below (suc n)) ≡ map g (below n) ++ (g n ∷ [])
+map-suc g n = ap (map g) (below-suc n) ∙ map-append g (below n) (n ∷ [])
+
 -- ---- the numbers below n
 from-length : (b n : ℕ) → length (from b n) ≡ n
 from-length b zero = refl
@@ -110,6 +113,9 @@ from-length b (suc n) = ap suc (from-length (suc b) n)
 
 pub below-length : (n : ℕ) → length (below n) ≡ n
 below-length n = from-length 0 n
+
+pub table-length : {A : Type 0} (g : ℕ → A) (n : ℕ) → length (map g (below n)) ≡ n
+table-length g n = length-map (below n) g ∙ below-length n
 
 from-at : (b n i : ℕ) → i < n → getD (from b n) i 0 ≡ b + i
 from-at b zero i h = absurd (omega arith)

@@ -2,20 +2,15 @@
 -- the laws themselves from what is proved of a format. Assumes nothing.
 use Prim.Native.Nat.{ℕ, zero, suc, _+_, _*_, _/_, _%_, _≤_, _<_}
 use mathlib.Core.Path.{_≡_, refl, sym, ap, _∙_}
-use mathlib.Core.Bool.{false, _&&_}
 use mathlib.Core.List.{List, [], _∷_, _++_, map}
 use native.Mathlib.Nat.{mul-zero, mul-suc, add-comm}
 use native.Mathlib.Omega.{arith}
-use lib.ListN.{length, getD, take, drop, length-drop, length-map, take-append-drop, List·getD-map}
+use lib.ListN.{length, getD, take, drop, length-drop, take-append-drop, List·getD-map}
 use lib.Seq.{length-take-le, take-all, take-add, drop-drop, getD-take, getD-drop, take-append-seam, drop-append-seam}
-use lib.Dec.{eqb}
-use borrow.Author.Tests.{eqb-true, not-false}
 use Rattle.sheet.specs.Lists.{concatMap, Every, from, below}
-use Rattle.sheet.specs.Bytes.{byteAt, u16At, u16Bytes}
-use Rattle.sheet.specs.Header.{wrongMark, wrongVersion}
-use Rattle.sheet.proofs.Laws.{and-parts}
-use Rattle.sheet.proofs.Lists.{getD-within, below-length, below-at}
-use Rattle.writer.specs.Laws.{Format, AllBytes, TwoLaws}
+use Rattle.sheet.specs.Bytes.{byteAt, AllBytes}
+use Rattle.sheet.proofs.Lists.{getD-within, table-length, below-at}
+use Rattle.writer.specs.Laws.{Format, TwoLaws}
 
 -- ---- lists
 pub every-at : {A : Type 0} (P : A → Type 0) (d : A) (xs : List A) → Every P xs → (i : ℕ) → i < length xs → P (getD xs i d)
@@ -24,9 +19,6 @@ every-at P d (x ∷ xs) h zero l = h .0
 every-at P d (x ∷ xs) h (suc i) l = every-at P d xs (h .1) i (omega arith)
 
 module _ {A : Type 0} (g : ℕ → A) where
-  pub table-length : (n : ℕ) → length (map g (below n)) ≡ n
-  table-length n = length-map (below n) g ∙ below-length n
-
   -- a table of what a list has at each place is the list
   table-from : (d : A) (b : ℕ) (xs : List A) → ((i : ℕ) → i < length xs → g (b + i) ≡ getD xs i d) → map g (from b (length xs)) ≡ xs
   table-from d b [] h = refl
@@ -39,7 +31,7 @@ module _ {A : Type 0} (g : ℕ → A) where
 
   pub table-at : (d : A) (n i : ℕ) → i < n → getD (map g (below n)) i d ≡ g i
   table-at d n i l =
-      getD-within (map g (below n)) i d (g 0) (rw (table-length n) l) ∙ List·getD-map g (below n) i 0 ∙ ap g (below-at n i l)
+      getD-within (map g (below n)) i d (g 0) (rw (table-length g n) l) ∙ List·getD-map g (below n) i 0 ∙ ap g (below-at n i l)
 
 pub bytes-front : (s : List ℕ) (n : ℕ) → n ≤ length s → map (byteAt s) (below n) ≡ take n s
 bytes-front s n h =
@@ -61,29 +53,6 @@ part-bytes s start size b = front size (drop start s) (λ i. rw (getD-drop start
     front (suc n) [] b i = omega arith
     front (suc n) (x ∷ l) b zero = b zero
     front (suc n) (x ∷ l) b (suc i) = front n l (λ j. b (suc j)) i
-
--- two bytes are those of the number that they say, whatever follows
-pub two-again : (s : List ℕ) (k : ℕ) {xs ys : List ℕ} → AllBytes s → xs ≡ ys
-    → u16Bytes (u16At s k) ++ xs ≡ byteAt s k ∷ byteAt s (k + 1) ∷ ys
-two-again s k b e =
-    let low = b k in
-    let l : u16At s k % 256 ≡ byteAt s k = omega arith in
-    let h : u16At s k / 256 ≡ byteAt s (k + 1) = omega arith in
-    rw (l, h, e)
-
--- a version that is not wrong is 1
-pub version-1 : (s : List ℕ) → wrongVersion s ≡ false → u16At s 3 ≡ 1
-unfolding wrongVersion
-version-1 s v = eqb-true (u16At s 3) 1 (not-false _ v)
-
--- the mark and the version are those that they say, too
-pub mark-again : (third version : ℕ) (s : List ℕ) {xs ys : List ℕ} → AllBytes s → wrongMark third s ≡ false → u16At s 3 ≡ version → xs ≡ ys
-    → 76 ∷ 88 ∷ third ∷ u16Bytes version ++ xs ≡ byteAt s 0 ∷ byteAt s 1 ∷ byteAt s 2 ∷ byteAt s 3 ∷ byteAt s 4 ∷ ys
-unfolding wrongMark
-mark-again third version s b m v e =
-    let (lx, z) = and-parts (eqb (byteAt s 0) 76 && eqb (byteAt s 1) 88) (eqb (byteAt s 2) third) (not-false _ m) in
-    let (l, x) = and-parts (eqb (byteAt s 0) 76) (eqb (byteAt s 1) 88) lx in
-    rw (eqb-true (byteAt s 0) 76 l, eqb-true (byteAt s 1) 88 x, eqb-true (byteAt s 2) third z, ← v, two-again s 3 b e)
 
 -- ---- a sheet of a head and n parts, each the bytes of what it says
 module _ (h w : ℕ) (bytes : List ℕ → List ℕ) (s : List ℕ) (g : ℕ → List ℕ) where

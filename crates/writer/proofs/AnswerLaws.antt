@@ -9,10 +9,12 @@ use lib.ListN.{length, getD, take}
 use lib.Dec.{eqb, ltb}
 use borrow.Author.Tests.{eq-eqb, le-ltb, eqb-true, eqb-false, ltb-false, not-false}
 use Rattle.sheet.specs.Lists.{anyb, below}
-use Rattle.sheet.specs.Bytes.{byteAt, u16At}
+use Rattle.sheet.specs.Bytes.{byteAt, u16At, AllBytes}
 use Rattle.sheet.specs.Checks.{check}
 use Rattle.sheet.specs.Header.{wrongMark, wrongVersion}
 use Rattle.sheet.proofs.Scan.{none-at}
+use Rattle.sheet.proofs.Lists.{table-length}
+use Rattle.sheet.proofs.Again.{two-again, version-1, mark-again}
 use Rattle.sheet.proofs.Checks.{none-broken, all-held}
 use Rattle.sheet.proofs.Laws.{by-test, or-parts}
 use Rattle.exercise.proofs.Head.{headed}
@@ -22,10 +24,10 @@ use Rattle.answer.proofs.Numbers.{placed-says}
 use Rattle.placing.specs.Places.{outOfRangeAt}
 use Rattle.writer.specs.Answers.{Placement, answerHead, placeBytes, answerSheet, placementOf}
 use Rattle.writer.specs.Answers.{answerWriterChecks, answerRefusal, AnswerPasses, ThreeEach}
-use Rattle.writer.specs.Laws.{AllBytes, TwoLaws, answerFormat, BesideExercise}
+use Rattle.writer.specs.Laws.{TwoLaws, answerFormat, BesideExercise}
 use Rattle.writer.proofs.Sheets.{answer-length, answer-part, apprentice-back, places-back}
-use Rattle.writer.proofs.Again.{every-at, table-length, table-is, bytes-front, bytes-whole}
-use Rattle.writer.proofs.Again.{two-again, version-1, mark-again, sheet-again, two-laws}
+use Rattle.writer.proofs.Again.{every-at, table-is, bytes-front, bytes-whole}
+use Rattle.writer.proofs.Again.{sheet-again, two-laws}
 
 -- ---- a place
 -- what place i of a sheet says

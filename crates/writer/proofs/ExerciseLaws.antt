@@ -10,7 +10,10 @@ use lib.Seq.{length-take-le}
 use borrow.Author.Tests.{eq-eqb, le-ltb, ltb-false}
 use Rattle.sheet.specs.Lists.{anyb}
 use Rattle.sheet.specs.Header.{wrongMark, wrongVersion}
+use Rattle.sheet.specs.Bytes.{AllBytes}
 use Rattle.sheet.proofs.Scan.{none-at}
+use Rattle.sheet.proofs.Lists.{table-length}
+use Rattle.sheet.proofs.Again.{two-again, version-1, mark-again}
 use Rattle.sheet.proofs.Checks.{none-broken, all-held}
 use Rattle.sheet.proofs.Laws.{by-test}
 use Rattle.exercise.specs.Exercise.{netCount, cellCount, recordStart, recordPart, overLimit, wrongExerciseLength, exerciseChecks, exerciseNumber}
@@ -20,10 +23,10 @@ use Rattle.exercise.proofs.Numbers.{record-number, record-values}
 use Rattle.tables.specs.Records.{cell, cellNumbers, malformed}
 use Rattle.writer.specs.Exercises.{Netlist, exerciseHead, exerciseSheet, packed, netlistOf}
 use Rattle.writer.specs.Exercises.{recordChecks, recordsNumber, exerciseWriterChecks, exerciseRefusal, ExercisePasses, TwelveEach}
-use Rattle.writer.specs.Laws.{AllBytes, TwoLaws, exerciseFormat}
+use Rattle.writer.specs.Laws.{TwoLaws, exerciseFormat}
 use Rattle.writer.proofs.Sheets.{exercise-length, exercise-part, nets-back, cells-back}
-use Rattle.writer.proofs.Again.{every-at, table-length, table-is, bytes-front, bytes-whole}
-use Rattle.writer.proofs.Again.{joined, part-bytes, two-again, version-1, mark-again, sheet-again, two-laws}
+use Rattle.writer.proofs.Again.{every-at, table-is, bytes-front, bytes-whole}
+use Rattle.writer.proofs.Again.{joined, part-bytes, sheet-again, two-laws}
 
 -- ---- a record
 -- what cell i of a sheet says

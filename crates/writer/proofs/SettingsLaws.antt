@@ -9,20 +9,21 @@ use lib.ListN.{length, take}
 use lib.Seq.{take-all, take-add}
 use lib.Dec.{eqb}
 use borrow.Author.Tests.{eq-eqb, le-ltb, eqb-true, ltb-false, not-false}
-use Rattle.sheet.specs.Bytes.{byteAt}
+use Rattle.sheet.specs.Bytes.{byteAt, AllBytes}
 use Rattle.sheet.specs.Header.{wrongMark}
 use Rattle.sheet.proofs.Checks.{none-broken, all-held}
 use Rattle.sheet.proofs.Laws.{by-test, or-parts}
+use Rattle.sheet.proofs.Again.{two-again, mark-again}
 use Rattle.route.specs.Table.{ENTRIES}
 use Rattle.settings.specs.Settings.{version, entryCount, board, headOf, flagsStart, flags}
 use Rattle.settings.specs.Settings.{unknownVersion, wrongSettingsLength, otherFlags, settingsChecks, settingsNumber}
 use Rattle.settings.proofs.Laws.{Passed, passed, flags-length}
 use Rattle.writer.specs.Boards.{Board, settingsHead, settingsSheet, boardOf}
 use Rattle.writer.specs.Boards.{wrongBoard, settingsWriterChecks, settingsRefusal, SettingsPass}
-use Rattle.writer.specs.Laws.{AllBytes, TwoLaws, settingsFormat}
+use Rattle.writer.specs.Laws.{TwoLaws, settingsFormat}
 use Rattle.writer.proofs.Sheets.{settings-length, version-back, count-back, flags-back}
 use Rattle.writer.proofs.Rooms.{six-fit}
-use Rattle.writer.proofs.Again.{joined, bytes-front, two-again, mark-again, two-laws}
+use Rattle.writer.proofs.Again.{joined, bytes-front, two-laws}
 
 -- ---- the board's number where 72 does not refuse it
 -- a version that is known and not 2 is 1

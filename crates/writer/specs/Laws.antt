@@ -1,11 +1,12 @@
 -- Request M-100, the two laws of a writer: "Whatever it writes reads back as the same records, and any sheet that passes .. is written again to
 -- identical bytes." They speak of a format, so that every writer has the same two. Assumes nothing.
-use Prim.Native.Nat.{ℕ, _≤_, _<_}
+use Prim.Native.Nat.{ℕ, _≤_}
 use mathlib.Core.Path.{_≡_}
 use mathlib.Core.Bool.{false}
 use mathlib.Core.List.{List, _++_}
-use lib.ListN.{length, getD, take, drop}
+use lib.ListN.{length, take, drop}
 use Rattle.sheet.specs.Lists.{anyb, below}
+use Rattle.sheet.specs.Bytes.{AllBytes}
 use Rattle.exercise.specs.Exercise.{cellCount, exerciseNumber}
 use Rattle.answer.specs.Answer.{placeCount, openingNumber}
 use Rattle.placing.specs.Places.{outOfRangeAt}
@@ -33,10 +34,6 @@ answerFormat = record { sheet = answerSheet; refusal = answerRefusal; says = pla
 
 abbrev pub settingsFormat : Format Board
 settingsFormat = record { sheet = settingsSheet; refusal = settingsRefusal; says = boardOf; Passes = SettingsPass; Given = λ _. Unit {0} }
-
--- every number of the list is a byte
-abbrev pub AllBytes : List ℕ → Type 0
-AllBytes s = (i : ℕ) → getD s i 0 < 256
 
 module _ {A : Type 0} (F : Format A) where
   -- the buffer and the length once x was written into `lent`
