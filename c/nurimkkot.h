@@ -1,25 +1,25 @@
-/* Nurimkkot: the judge of FPGA placement exercises, for one answer and for a class, the check of one LAB, the readers and the writers of
- * exercise, answer and settings sheets, for C.
+/* Nurimkkot: the judge of FPGA placement exercises, for one answer and for a class, the minutes on a tablet's log, the check of one LAB, the
+ * readers and the writers of exercise, answer and settings sheets, for C.
  *
  * Link with libc_api.a, which `rt staticlib c_api` writes to target/staticlib. The archive is for x86-64 Linux, position independent,
  * and calls nothing but memory functions of the C library (memcpy, memset and the like). docs/SHEETS.md has the layout of the sheets.
  *
  * Every function asks this of its pointers:
  *   - a pointer is valid for the length or count that goes with it, or for the array that is declared here;
- *   - no pointer is NULL, but one whose length, count or room is 0: an empty sheet, buffer or list may be NULL. That is tested
+ *   - no pointer is NULL, but one whose length, count or room is 0: an empty sheet, log, buffer or list may be NULL. That is tested
  *     (tests/c/null.c), not proved;
  *   - a pointer is aligned for its type. The records in a sheet need not be: copy them, and do not cast `exercise + 9` to
  *     struct nurimkkot_cell *;
- *   - what the call writes (route, numbers, rows, *filled, *at, cell, place, sheet, entries, *length) overlaps nothing else that is
- *     passed to the same call. What it only reads may overlap.
- * Nothing is asked of the contents: a sheet, a list and *at may hold anything, and a length, count or room may be any, also 0.
+ *   - what the call writes (route, numbers, rows, *filled, *rows_filled, *entries_filled, *at, cell, place, sheet, entries, *length)
+ *     overlaps nothing else that is passed to the same call. What it only reads may overlap.
+ * Nothing is asked of the contents: a sheet, a log, a list and *at may hold anything, and a length, count or room may be any, also 0.
  *
  * Every call returns. It allocates nothing and keeps nothing, so threads may call at the same time, where none writes what another
  * uses.
  *
- * Stack: nurimkkot_judge and nurimkkot_mark_class use less than 48 KiB each, nurimkkot_write_exercise less than 16 KiB,
- * nurimkkot_check_lab less than 8 KiB, every other function less than 1 KiB. That is measured, not proved: tests/c/stack.c fails above
- * these figures. */
+ * Stack: nurimkkot_judge and nurimkkot_mark_class use less than 48 KiB each, nurimkkot_minutes less than 24 KiB,
+ * nurimkkot_write_exercise less than 16 KiB, nurimkkot_check_lab less than 8 KiB, every other function less than 1 KiB. That is measured,
+ * not proved: tests/c/stack.c fails above these figures. */
 #ifndef NURIMKKOT_H
 #define NURIMKKOT_H
 
@@ -110,6 +110,45 @@ uint8_t nurimkkot_mark_class(const uint8_t *settings, size_t settings_length,
                              const uint8_t *exercise, size_t exercise_length,
                              const uint8_t *class_sheet, size_t class_length,
                              struct nurimkkot_row *rows, size_t count, size_t *filled);
+
+/* A row: an apprentice's number and minutes. */
+struct nurimkkot_credit {
+    uint32_t apprentice;
+    uint32_t minutes;
+};
+
+/* What nurimkkot_minutes is lent: so many rows and entry numbers, as many as a log has apprentices and entries at most. */
+#define NURIMKKOT_CREDIT_ROWS 64
+#define NURIMKKOT_LOG_ENTRIES 1024
+
+/* How many bytes a log of so many entries has. */
+#define NURIMKKOT_LOG_LENGTH(entries) (7 + 14 * (size_t)(entries))
+
+/* Counts the minutes of each apprentice on a tablet's log of one week.
+ *
+ * A log has the mark LXL, the version, 1, and the count of its entries, 16 bits each; then 14 bytes an entry: apprentice (32 bits), verdict,
+ * opening minute, closing minute (16 each), login (32). Low bytes come first. An entry covers the minutes from its opening to before its
+ * closing; one that closes at or before its opening covers none. An apprentice's minutes are the distinct minutes that the entries with that
+ * apprentice cover. Verdict and login may be anything and change nothing.
+ *
+ * Returns 0 and fills
+ *   - one row for each apprentice on the log, by rising number, also for one with no minutes; *rows_filled is how many;
+ *   - the number of each entry that covers no minute, rising, the first entry being 0; *entries_filled is how many.
+ * The rest of both lists stays. The minutes of all rows add up to the number of distinct pairs of apprentice and covered minute.
+ *
+ * Or returns the first of these that applies; then not one row and not one entry number is touched, and both counts are 0:
+ *   87  row_count is not NURIMKKOT_CREDIT_ROWS, or entry_count is not NURIMKKOT_LOG_ENTRIES;
+ *   80  the log has under 7 bytes;
+ *   81  it does not begin with LXL;
+ *   82  it has another version than 1;
+ *   83  it has more than NURIMKKOT_LOG_ENTRIES entries;
+ *   84  it is not as long as its count says, NURIMKKOT_LOG_LENGTH(count);
+ *   85  in some entry the opening or the closing minute is above 10,080, or the apprentice is 0;
+ *   86  there are more than NURIMKKOT_CREDIT_ROWS apprentices, those with no minutes counted too. */
+uint8_t nurimkkot_minutes(const uint8_t *log, size_t log_length,
+                          struct nurimkkot_credit *rows, size_t row_count,
+                          uint16_t *entries, size_t entry_count,
+                          size_t *rows_filled, size_t *entries_filled);
 
 /* A cell's record: kind (1 combinational, 2 register), flag and eleven signals, as nurimkkot_next_record gives them. On a little-endian
  * machine, such as x86-64, it has the very 24 bytes of the record in the exercise sheet. */

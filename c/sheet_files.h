@@ -1,4 +1,4 @@
-/* What the examples that judge share: reading a sheet from a file, and the board to judge by. */
+/* What the examples that read share: reading a sheet or a log from a file, and the board to judge by. */
 #ifndef NURIMKKOT_SHEET_FILES_H
 #define NURIMKKOT_SHEET_FILES_H
 
@@ -9,11 +9,12 @@
 #include <stdlib.h>
 #include <string.h>
 
-/* One byte more than the largest legal sheets: of a longer file no more is needed to give it its verdict. */
+/* One byte more than the largest legal sheets and logs: of a longer file no more is needed to give it its number. */
 #define EXERCISE_ROOM 12298
 #define ANSWER_ROOM 2060
 #define SETTINGS_ROOM (NURIMKKOT_MOST_SETTINGS + 1)
 #define CLASS_ROOM (7 + NURIMKKOT_MOST_ANSWERS * (2 + 65535) + 1)
+#define LOG_ROOM (NURIMKKOT_LOG_LENGTH(NURIMKKOT_LOG_ENTRIES) + 1)
 
 /* Reads a file, as far as there is room. One that can't be read ends the program with status 2, as it says nothing about the sheet; one that
  * is missing does so too, unless it counts as empty. */

@@ -35,7 +35,7 @@ class Row(ctypes.Structure):
     _fields_ = [(name, ctypes.c_uint32) for name in Verdict._fields]
 
 
-class Library(shared.Library):
+class Library(shared.Judge):
     """The judge of one answer, and of a class."""
 
     def find_functions(self):
@@ -77,12 +77,12 @@ def fields(row, verdict, none):
 
 def table(verdicts):
     """Lines that a person reads."""
-    return [COLUMNS % HEADINGS] + [COLUMNS % fields(row, verdict, "-") for row, verdict in enumerate(verdicts)]
+    return shared.table(COLUMNS, HEADINGS, [fields(row, verdict, "-") for row, verdict in enumerate(verdicts)])
 
 
 def csv_table(verdicts):
-    """The lines of a CSV file. No field needs quotes."""
-    return [",".join(HEADINGS)] + [",".join(map(str, fields(row, verdict, ""))) for row, verdict in enumerate(verdicts)]
+    """The lines of a CSV file."""
+    return shared.csv_table(HEADINGS, [fields(row, verdict, "") for row, verdict in enumerate(verdicts)])
 
 
 def why_refused(number, sheet):
@@ -154,7 +154,7 @@ def pack(library, folder):
     put_in_place(folder, {CLASS_LXC: class_sheet(answers)}, check, replace=True)
     shared.say("%s has over %d bytes, more than a legal answer; its first %d are packed, and its verdict is the same"
                % (plain(name), LARGEST_ANSWER, len(answer)) for name, answer in zip(names, answers) if len(answer) > LARGEST_ANSWER)
-    return [PACKED % ("row", "bytes", "file")] + [PACKED % (row, len(answers[row]), plain(name)) for row, name in enumerate(names)]
+    return shared.table(PACKED, ("row", "bytes", "file"), [(row, len(answers[row]), plain(name)) for row, name in enumerate(names)])
 
 
 def main(words):

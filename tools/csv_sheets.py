@@ -37,7 +37,7 @@ MOST_ENTRIES = 8                        # that the reader of settings sheets giv
 LARGEST_16, LARGEST_32 = 0xffff, 0xffffffff
 
 
-class Library(shared.Library):
+class Library(shared.Judge):
     """The judge, the readers and the writers. A record is 13 numbers, a place three, an entry a byte of flags."""
 
     def find_functions(self):

@@ -39,7 +39,7 @@ class Verdict(NamedTuple):
 
 
 class Library:
-    """Functions of c/nurimkkot.h: those that all scripts call. A script that calls more finds them too."""
+    """The functions of c/nurimkkot.h that a script calls. Each script finds its own."""
 
     def __init__(self, path):
         try:
@@ -48,15 +48,19 @@ class Library:
         except (OSError, AttributeError) as why:
             raise Refused("the library can't be used: %s" % why) from None
 
-    def find_functions(self):
-        sheet, size, lent = ctypes.c_char_p, ctypes.c_size_t, ctypes.c_void_p
-        self.c_house_settings = self.function("house_settings", None, lent)
-        self.c_judge = self.function("judge", None, sheet, size, sheet, size, sheet, size, lent, size, lent)
-
     def function(self, name, result, *arguments):
         found = getattr(self.functions, "nurimkkot_" + name)
         found.restype, found.argtypes = result, arguments
         return found
+
+
+class Judge(Library):
+    """The judge of one answer."""
+
+    def find_functions(self):
+        sheet, size, lent = ctypes.c_char_p, ctypes.c_size_t, ctypes.c_void_p
+        self.c_house_settings = self.function("house_settings", None, lent)
+        self.c_judge = self.function("judge", None, sheet, size, sheet, size, sheet, size, lent, size, lent)
 
     def house_settings(self):
         """The settings sheet of document 01's board."""
@@ -141,6 +145,16 @@ def listed(names):
 
 def counted(count, what, many=None):
     return "%d %s" % (count, what if count == 1 else many or what + "s")
+
+
+def table(columns, headings, rows):
+    """Lines that a person reads: the headings and the rows, in columns of this form."""
+    return [columns % fields for fields in (headings, *rows)]
+
+
+def csv_table(headings, rows):
+    """The lines of a CSV file. No field may need quotes."""
+    return [",".join(map(str, fields)) for fields in (headings, *rows)]
 
 
 def same(*pairs):

@@ -7,15 +7,18 @@
                                     print the sheets in words, with --labs also what each LAB has
     python3 tools/sheets.py words --settings SETTINGS
                                     print a settings sheet in words
+    python3 tools/sheets.py words --log LOG
+                                    print a log of the tablets in words
     python3 tools/sheets.py list    print one line a sample
 
 This tool builds sheets and prints sheets. It does not judge them. What the judge has to
 answer for a sample is written down next to the sample: the number, the cell, the LAB, the
-apprentice, the culprit and, for a legal answer, the route bytes of each occupied LAB.
+apprentice, the culprit and, for a legal answer, the route bytes of each occupied LAB; for a
+log the number, the minutes of each apprentice and the entries that cover nothing.
 
 To build sheets of your own, import it: see docs/SAMPLES.md. A wrong number is refused with a
 ValueError. Sheets that are wrong on purpose are built with raw_record, raw_exercise,
-raw_answer, raw_settings and patch, which only ask that each number fits its bytes.
+raw_answer, raw_settings, raw_log and patch, which only ask that each number fits its bytes.
 """
 
 import os
@@ -29,6 +32,8 @@ MAX_NETS = 1024
 MAX_CELLS = 512
 MAX_ENTRIES = 8
 MAX_ANSWERS = 32
+MAX_LOG = 1024                  # entries of a log
+WEEK = 10080                    # minutes of a week
 
 
 class Signal(int):
@@ -193,6 +198,35 @@ def class_sheet(*answers):
         if not isinstance(an, bytes):
             raise ValueError("answer %d is a sheet, not %r" % (i, an))
         sheet += struct.pack("<H", checked("the length of answer %d" % i, len(an), 0, 65535)) + an
+    return sheet
+
+
+ENTRY_FIELDS = (("apprentice", 0, 4), ("verdict", 4, 2), ("opening", 6, 2), ("closing", 8, 2),
+                ("login", 10, 4))
+
+
+def raw_log(*entries):
+    """A log of any entries; an entry is (apprentice, verdict, opening, closing, login)."""
+    log = b"LXL" + struct.pack("<HH", 1, checked("an entry count", len(entries), 0, 65535))
+    for i, entry in enumerate(entries):
+        if not isinstance(entry, (tuple, list)) or len(entry) != len(ENTRY_FIELDS):
+            raise ValueError("entry %d is (apprentice, verdict, opening, closing, login), not %r"
+                             % (i, entry))
+        for (name, _, size), value in zip(ENTRY_FIELDS, entry):
+            checked("%s of entry %d" % (name, i), value, 0, 256 ** size - 1)
+            log += value.to_bytes(size, "little")
+    return log
+
+
+def log(*entries):
+    """A log of the tablets. The minutes are 0 to 10080 of the week; the closing one is not
+    covered."""
+    checked("an entry count", len(entries), 0, MAX_LOG)
+    sheet = raw_log(*entries)
+    for i, (apprentice, _, opening, closing, _) in enumerate(entries):
+        checked("apprentice of entry %d" % i, apprentice, 1, 2 ** 32 - 1)
+        checked("opening of entry %d" % i, opening, 0, WEEK)
+        checked("closing of entry %d" % i, closing, 0, WEEK)
     return sheet
 
 
@@ -378,6 +412,34 @@ def settings_words(data):
     shown = records(data, head, 1, count)
     lines += ["  entry %d: %s" % (i, entry_words(data[head + i])) for i in range(shown)]
     return lines + tail_words(data, head, 1, count, shown, "byte missing for entry",
+                              "bytes missing for entries")
+
+
+def log_entry_words(data):
+    """What stands on an entry of a log. Nothing is said of the minutes that it covers."""
+    bad = {"apprentice": lambda v: "" if v else "must not be 0",
+           "opening": lambda v: "over 10080" if v > WEEK else ""}
+    bad["closing"] = bad["opening"]
+    parts = []
+    for name, start, size in ENTRY_FIELDS:
+        value = number_at(data, start, size)
+        why = bad.get(name, lambda v: "")(value)
+        parts.append("%s %d%s" % (name, value, " (bad: %s)" % why if why else ""))
+    return ", ".join(parts)
+
+
+def log_words(data):
+    """A log in words, line by line, None for a missing file."""
+    lines = head_words("log", data, b"LXL", 7, [
+        ("version", 3, 2, lambda v: "" if v == 1 else "must be 1"),
+        ("entries", 5, 2, lambda v: "at most 1024" if v > MAX_LOG else ""),
+    ])
+    data = data or b""
+    count = number_at(data, 5, 2) or 0
+    shown = records(data, 7, 14, count)
+    lines += ["entry %d: %s" % (i, part_words("entry", data, 7 + 14 * i, 14, log_entry_words))
+              for i in range(shown)]
+    return lines + tail_words(data, 7, 14, count, shown, "bytes missing for entry",
                               "bytes missing for entries")
 
 
@@ -1481,6 +1543,177 @@ def all_samples():
     return SAMPLES
 
 
+# ---------------------------------------------------------------- logs of the tablets
+
+LOG_SAMPLES = []
+
+
+class Minutes:
+    """What has to come of a log, written down by hand."""
+
+    def __init__(self, number, credits=(), nothing=()):
+        self.number = number
+        self.credits = list(credits)    # (apprentice, minutes), rising
+        self.nothing = list(nothing)    # the entries that cover nothing: (number, *entry)
+
+    def expected_lines(self):
+        return ("number %d\n" % self.number
+                + "".join("apprentice %d minutes %d\n" % credit for credit in self.credits)
+                + "".join("entry %d covers none\n" % entry[0] for entry in self.nothing))
+
+    def lines(self):
+        """What './nurimkkot minutes' prints, None where the log is refused."""
+        if self.number:
+            return None
+        row = lambda *fields: "%10s  %7s  %5d:%02d\n" % (fields + divmod(fields[1], 60))
+        text = "apprentice  minutes     hours\n"
+        text += "".join(row(*credit) for credit in self.credits)
+        text += row("total", sum(minutes for _, minutes in self.credits))
+        text += "\nentries that cover nothing: %d\n" % len(self.nothing)
+        if self.nothing:
+            text += "entry  apprentice  opening  closing       login\n"
+        for number, apprentice, _, opening, closing, login in self.nothing:
+            text += "%5d  %10d  %7d  %7d  %10d\n" % (number, apprentice, opening, closing, login)
+        return text
+
+    def csv(self):
+        """The same with --csv."""
+        if self.number:
+            return None
+        text = "apprentice,minutes,hours,entries that cover nothing\n"
+        for apprentice, minutes in self.credits:
+            own = ["#%d" % entry[0] for entry in self.nothing if entry[1] == apprentice]
+            text += "%d,%d,%d:%02d,%s\n" % (apprentice, minutes, minutes // 60, minutes % 60,
+                                            " ".join(own))
+        return text
+
+
+def log_sample(name, why, sheet, number, credits=(), nothing=()):
+    LOG_SAMPLES.append((name, why, sheet, Minutes(number, credits, nothing)))
+
+
+def taken(name, why, entries, credits, nothing=()):
+    """A log that is not refused; nothing has the numbers of the entries that cover nothing."""
+    log_sample(name, why, log(*entries), 0, credits, [(i,) + entries[i] for i in nothing])
+
+
+def class_log():
+    """The class over a week. Apprentice 100 + k is to come at 9:00 on five days and comes k
+    minutes late. The morning goes on to 12:00, and a second entry is from 11:30 to 12:30. On the
+    days 0, 2 and 4 there are two more, 13:00 to 15:00 and within it 13:30 to 14:00. Two
+    apprentices share a tablet and its login. The entries of each hour stand with the highest
+    apprentice first.
+
+    Apprentice 117 closes each morning's entry at once and has no other. The last two entries are
+    one of 104, whose tablet's clock was set back, and the last two hours of the week of 118."""
+    verdict = {100 + i + 1: expected.number
+               for i, (_, _, expected) in enumerate(class_answers())}
+    out = []
+
+    def entry(k, day, opening, closing):
+        out.append((100 + k, verdict[100 + k], 1440 * day + opening, 1440 * day + closing,
+                    201 + (k - 1) // 2))
+
+    others = [18] + list(range(16, 0, -1))
+    for day in range(5):
+        for k in range(18, 0, -1):
+            entry(k, day, 540 + k, 540 + k if k == 17 else 720)
+        for opening, closing in [(690, 750)] + [(780, 900), (810, 840)] * (day % 2 == 0):
+            for k in others:
+                entry(k, day, opening, closing)
+    entry(4, 2, 900, 890)
+    entry(18, 6, 1320, 1440)
+    return out
+
+
+def minutes_samples():
+    """Logs that are not refused."""
+    # On each of the five days 180 - k + 30 minutes, on three of them 120 more. A day has 18 + 17
+    # entries, and 2 x 17 more where it is even: 117's are 1, 70, 105, 174 and 209.
+    credits = [(100 + k, 5 * (210 - k) + 3 * 120) for k in range(1, 17)]
+    taken("minutes-class", "the class of eighteen over a week: entries that overlap, a tablet for "
+          "two, an apprentice who closes each entry at once, a clock that was set back",
+          class_log(), credits + [(117, 0), (118, 5 * (210 - 18) + 3 * 120 + 120)],
+          [1, 70, 105, 174, 209, 277])
+    taken("minutes-400-hours", "three entries of apprentice 109 add up to 400 hours, 168, 168 and "
+          "64, all within one week: they cover 168",
+          [(109, 0, 0, 10080, 205), (109, 60, 0, 10080, 206), (110, 61, 540, 720, 205),
+          (109, 0, 1440, 5280, 207), (110, 0, 600, 780, 205)],
+          [(109, 10080), (110, 240)])
+    taken("minutes-one-login", "one tablet passed from hand to hand under the login of apprentice "
+          "101: each has the minutes of their own entries",
+          [(101, 0, 540, 585, 101), (102, 63, 585, 630, 101), (103, 50, 630, 675, 101),
+          (101, 0, 675, 720, 101)],
+          [(101, 90), (102, 45), (103, 45)])
+    taken("minutes-no-minutes", "an apprentice whose one entry closes in the minute of its "
+          "opening", [(7, 0, 540, 600, 7), (8, 20, 600, 600, 7)], [(7, 60), (8, 0)], [1])
+    taken("minutes-touching", "an entry opens in the minute in which another closes: no minute is "
+          "missed and none counts twice",
+          [(7, 0, 60, 120, 1), (7, 0, 120, 180, 1), (7, 0, 0, 60, 1)], [(7, 180)])
+    taken("minutes-nested", "entries within an entry, the same one twice, and one that overlaps "
+          "two: 100 to 500",
+          [(7, 0, 100, 400, 1), (7, 0, 200, 300, 2), (7, 0, 100, 101, 1), (7, 0, 399, 400, 3),
+          (7, 0, 200, 300, 2), (7, 0, 350, 500, 2), (7, 0, 450, 500, 1)], [(7, 400)])
+    taken("minutes-10080", "the last minute of the week is 10079: an entry may close at 10080, "
+          "and one that opens there covers nothing",
+          [(7, 0, 10079, 10080, 1), (8, 0, 0, 10080, 1), (9, 0, 10080, 10080, 1),
+          (7, 0, 10080, 0, 1)], [(7, 1), (8, 10080), (9, 0)], [2, 3])
+    taken("minutes-two-apprentices", "two apprentices in the same minutes: each minute counts for "
+          "each",
+          [(9, 0, 0, 100, 1), (8, 0, 50, 150, 1), (9, 0, 90, 110, 8)], [(8, 100), (9, 110)])
+    taken("minutes-no-entries", "a log without entries: 7 bytes", [], [])
+    taken("minutes-64-apprentices", "64 apprentices, the most, the highest first: the order is by "
+          "number, and 4294967295 is the highest",
+          [(2 ** 32 - 1, 0, 0, 64, 1), (2 ** 31, 0, 0, 63, 1)]
+          + [(k, 0, 0, k, 2 ** 32 - 1) for k in range(62, 0, -1)],
+          [(k, k) for k in range(1, 63)] + [(2 ** 31, 63), (2 ** 32 - 1, 64)])
+    taken("minutes-1024-entries", "1,024 entries, the most: entry i is minute i of apprentice i "
+          "mod 64 + 1, and no entry of apprentice 64 covers a minute",
+          [(i % 64 + 1, 65535, i, i if i % 64 == 63 else i + 1, i) for i in range(1024)],
+          [(k, 16) for k in range(1, 64)] + [(64, 0)], range(63, 1024, 64))
+
+
+def refused_logs():
+    """Numbers 80 to 86. A log of two entries where nothing else is said."""
+    good = log((7, 0, 540, 600, 7), (8, 20, 600, 600, 7))
+    with_first = lambda *entry: raw_log(entry, (8, 20, 600, 600, 7))
+    many = [(k, 0, 0, 60, 1) for k in range(1, 66)]
+    log_sample("missing-log", "no tablet.lxl: it counts as empty", None, 80)
+    log_sample("v80-empty", "the log is empty", b"", 80)
+    log_sample("v80-too-short", "a log of 6 bytes", good[:6], 80)
+    log_sample("v81-mark", "the log's mark in small letters", b"lxl" + good[3:], 81)
+    log_sample("v81-class-sheet", "a class sheet in place of the log",
+               class_sheet(LISTING_AN, b""), 81)
+    log_sample("v82-version", "a log of version 2", patch(good, 3, 2), 82)
+    log_sample("v82-byte-order", "a log's version with the high byte first: version 256",
+               patch(good, 3, 0, 1), 82)
+    log_sample("v83-count", "1,025 entries", raw_log(*[(7, 0, 540, 600, 7)] * 1025), 83)
+    log_sample("v83-before-84", "7 bytes with 1,025 entries: the count is asked first",
+               patch(good[:7], 5, 1, 4), 83)
+    log_sample("v84-byte-missing", "the last byte of the log is missing", good[:-1], 84)
+    log_sample("v84-byte-left-over", "one byte too many on the log", good + b"\0", 84)
+    log_sample("v84-before-85", "the last entry is missing, the first has apprentice 0: the "
+               "length is asked first", with_first(0, 0, 540, 600, 7)[:-14], 84)
+    log_sample("v85-apprentice", "entry 0 has apprentice 0", with_first(0, 0, 540, 600, 7), 85)
+    log_sample("v85-opening", "entry 0 opens at 10081; that it covers nothing makes no difference",
+               with_first(7, 0, 10081, 600, 7), 85)
+    log_sample("v85-closing", "entry 0 closes at 10081", with_first(7, 0, 540, 10081, 7), 85)
+    log_sample("v85-last-entry", "the last of 1,024 entries closes at 65535",
+               raw_log(*[(7, 0, 540, 600, 7)] * 1023, (7, 0, 540, 65535, 7)), 85)
+    log_sample("v85-before-86", "65 apprentices, and behind them an entry with apprentice 0: 85 "
+               "is asked of all entries first", raw_log(*many, (0, 0, 540, 600, 7)), 85)
+    log_sample("v86-65-apprentices", "65 apprentices", raw_log(*many), 86)
+    log_sample("v86-covers-nothing", "the 65th apprentice has one entry, which covers nothing",
+               raw_log(*many[:64], (65, 0, 60, 60, 1)), 86)
+
+
+def log_samples():
+    if not LOG_SAMPLES:
+        minutes_samples()
+        refused_logs()
+    return LOG_SAMPLES
+
+
 # ---------------------------------------------------------------- commands
 
 def write(folder, name, data):
@@ -1509,6 +1742,17 @@ def make(top):
 
     make_small_class(os.path.join(top, "samples", "class-small"))
     make_class(os.path.join(top, "samples", "class"))
+    for name, _, sheet, expected in log_samples():
+        make_log(os.path.join(top, "samples", name), sheet, expected)
+
+
+def make_log(folder, sheet, expected):
+    os.makedirs(folder, exist_ok=True)
+    write(folder, "tablet.lxl", sheet)
+    write(folder, "words.txt", "\n".join(log_words(sheet)) + "\n")
+    write(folder, "expected.txt", expected.expected_lines())
+    write(folder, "minutes.txt", expected.lines())
+    write(folder, "minutes.csv", expected.csv())
 
 
 def make_small_class(folder):
@@ -1544,6 +1788,8 @@ def list_samples():
              for name, why, _, _, expected, _ in all_samples()]
     lines += ["- `class/answer-%02d` (%d): %s" % (i + 1, expected.number, why)
               for i, (why, _, expected) in enumerate(class_answers())]
+    lines += ["- `%s` (%d): %s" % (name, expected.number, why)
+              for name, why, _, expected in log_samples()]
     return "\n".join(lines) + "\n"
 
 
@@ -1581,6 +1827,8 @@ def read_file(path, head, size):
 
 def run_words(args):
     """What `words` prints, or None where the arguments are none of its own."""
+    if args[:1] == ["--log"]:
+        return "\n".join(log_words(read_file(args[1], 7, 14))) + "\n" if len(args) == 2 else None
     labs, path, args = False, None, list(args)
     while args and args[0] in ("--labs", "--settings"):
         if args.pop(0) == "--labs":

@@ -1,4 +1,4 @@
-/* What class.c and write.c share: numbers that look random, the same in each run. */
+/* What class.c, minutes.c and write.c share: numbers that look random, the same in each run. */
 #ifndef NURIMKKOT_TESTS_CHANCE_H
 #define NURIMKKOT_TESTS_CHANCE_H
 

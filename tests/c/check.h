@@ -1,4 +1,4 @@
-/* What the C tests share: the header, and a count of what failed. */
+/* What the C tests share: the header, a count of what failed, and putting a number into a sheet. */
 #ifndef NURIMKKOT_TESTS_CHECK_H
 #define NURIMKKOT_TESTS_CHECK_H
 
@@ -19,6 +19,19 @@ static void expect(int holds, const char *what, long at)
         printf("FAILED: %s (%ld)\n", what, at);
         failures++;
     }
+}
+
+/* A condition that is known when the test is built; one that does not hold is an array of length -1. */
+#define HOLDS(name, condition) typedef char name[(condition) ? 1 : -1]
+
+/* Puts a number of so many bytes, low byte first; gives where the next one goes. */
+static inline uint8_t *put(uint8_t *at, uint32_t value, int bytes)
+{
+    for (; bytes > 0; bytes--) {
+        *at++ = (uint8_t)(value % 256);
+        value /= 256;
+    }
+    return at;
 }
 
 #endif

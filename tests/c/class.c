@@ -18,8 +18,7 @@
 #define LONGEST 65535
 #define ROOM (7 + (MOST + 1) * (2 + LONGEST) + 1)
 
-/* A row is four 32-bit numbers without gaps, in an array too. A condition that does not hold is an array of length -1. */
-#define HOLDS(name, condition) typedef char name[(condition) ? 1 : -1]
+/* A row is four 32-bit numbers without gaps, in an array too. */
 #define FIELD(name, offset) \
     HOLDS(row_##name, offsetof(struct nurimkkot_row, name) == (offset) && sizeof((struct nurimkkot_row *)0)->name == sizeof(uint32_t))
 struct behind_a_byte {

@@ -2,6 +2,7 @@
  * has an address, nothing is written but what the header says, and NULL does not get as far as memcpy or memset. To be linked
  * with --wrap for these two. A read or write at NULL ends the test. */
 #include "classes.h"
+#include "logs.h"
 #include "../../c/sheet_files.h"
 
 void *__real_memcpy(void *to, const void *from, size_t length);
@@ -116,6 +117,32 @@ static void mark(const uint8_t *exercise, size_t exercise_length, const uint8_t 
             if (which == 2 && with_rows)
                 expect(first == (!with_settings ? 70 : !with_exercise ? 10 : number), "the first row of a class", (long)first);
         }
+}
+
+/* The minutes on a log, with and without a log, rows and entry numbers, beside the same call with an address for each. */
+static void minutes(int with)
+{
+    static const struct entry entries[2] = {{7, 0, 5, 8, 9}, {7, 0, 5, 5, 9}};
+    static struct nurimkkot_credit rows[2][NURIMKKOT_CREDIT_ROWS];
+    static uint16_t numbers[2][NURIMKKOT_LOG_ENTRIES];
+    uint8_t tablet[NURIMKKOT_LOG_LENGTH(2)], said, wanted = with < 6 ? 87 : with == 6 ? 80 : 0;
+    size_t length = put_log(tablet, entries, 2), row_count = with & 2 ? NURIMKKOT_CREDIT_ROWS : 0;
+    size_t entry_count = with & 4 ? NURIMKKOT_LOG_ENTRIES : 0, counts[2][2];
+    memset(rows, 0xa5, sizeof rows);
+    memset(numbers, 0xa5, sizeof numbers);
+    memset(counts, 0x5a, sizeof counts);
+    length = with & 1 ? length : 0;
+    inside = 1;
+    said = nurimkkot_minutes(with & 1 ? tablet : NULL, length, with & 2 ? rows[0] : NULL, row_count, with & 4 ? numbers[0] : NULL, entry_count,
+                             &counts[0][0], &counts[0][1]);
+    inside = 0;
+    expect(said == wanted, "the number of a log", said);
+    expect(said == nurimkkot_minutes(tablet, length, rows[1], row_count, numbers[1], entry_count, &counts[1][0], &counts[1][1]),
+           "the same number of a log as with an address", said);
+    expect(memcmp(rows[0], rows[1], sizeof rows[0]) == 0, "the same rows of minutes as with an address", with);
+    expect(memcmp(numbers[0], numbers[1], sizeof numbers[0]) == 0, "the same entry numbers as with an address", with);
+    expect(counts[0][0] == (with == 7) && counts[0][1] == (with == 7), "how many rows and entry numbers are filled", with);
+    expect(memcmp(counts[0], counts[1], sizeof counts[0]) == 0, "the same counts as with an address", with);
 }
 
 /* The check of one LAB, with or without a settings sheet and a list. */
@@ -277,7 +304,7 @@ static void writers(void)
 int main(int argc, char **argv)
 {
     static uint8_t exercise[EXERCISE_ROOM], answer[ANSWER_ROOM];
-    int pair, pairs = 0, empty_answers = 0;
+    int pair, pairs = 0, empty_answers = 0, with;
     uint64_t number;
     expect(judge(NULL, 0, NULL, 0, 0) == 1, "nothing at all", 1);
     expect(judge(NULL, 0, NULL, 0, 1) == 10, "no sheets", 10);
@@ -296,6 +323,8 @@ int main(int argc, char **argv)
         pairs++;
     }
     expect(pairs > 0 && empty_answers > 0 && empty_answers < pairs, "sheets of both sorts", pairs);
+    for (with = 0; with < 8; with++)
+        minutes(with);
     check(1, 0, 0);
     check(0, 0, 70);
     check(0, 1, 70);
@@ -305,6 +334,6 @@ int main(int argc, char **argv)
     writers();
     expect(calls > 0, "memcpy and memset were watched", calls);
     if (failures == 0)
-        printf("C: NULL with length 0 is an empty sheet, route, list, buffer or run of rows, beside %d pairs of sheets\n", pairs);
+        printf("C: NULL with length 0 is an empty sheet, log, route, list, buffer or run of rows, beside %d pairs of sheets\n", pairs);
     return failures != 0;
 }

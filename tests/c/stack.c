@@ -1,9 +1,9 @@
 /* Measures the stack that a call of each function uses and fails where that is not less than the header says. A call runs in a thread
- * whose stack is painted first; the paint that is gone tells what the call used. The sheets have 512 cells, the class 32 answers, the LABs
- * and the list 32 cells and eight needs, the most there are, on eight entries, as many as a board may have, so that the search goes as deep
- * as it can. Built without sanitizers, whose frames would be measured too. */
+ * whose stack is painted first; the paint that is gone tells what the call used. The sheets have 512 cells, the class 32 answers, the log
+ * 1,024 entries, the LABs and the list 32 cells and eight needs, the most there are, on eight entries, as many as a board may have, so that
+ * the search goes as deep as it can. Built without sanitizers, whose frames would be measured too. */
 #define _XOPEN_SOURCE 600
-#include "check.h"
+#include "logs.h"
 
 #include <pthread.h>
 
@@ -19,6 +19,7 @@
 /* The header's figures: each function uses less. */
 #define JUDGE_LIMIT (48 * KIB)
 #define CLASS_LIMIT (48 * KIB)
+#define MINUTES_LIMIT (24 * KIB)
 #define CHECK_LIMIT (8 * KIB)
 #define WRITE_EXERCISE_LIMIT (16 * KIB)
 /* Every other function. */
@@ -29,6 +30,10 @@ static uint64_t numbers[NURIMKKOT_NUMBERS];
 static uint8_t class_sheet[7 + NURIMKKOT_MOST_ANSWERS * (2 + sizeof answer)];
 static struct nurimkkot_row rows[NURIMKKOT_MOST_ANSWERS];
 static size_t lent, filled;
+static uint8_t tablet[NURIMKKOT_LOG_LENGTH(NURIMKKOT_LOG_ENTRIES)];
+static struct nurimkkot_credit credits[NURIMKKOT_CREDIT_ROWS];
+static uint16_t listed[NURIMKKOT_LOG_ENTRIES];
+static size_t credit_rows = NURIMKKOT_CREDIT_ROWS, credited, listed_count;
 static struct nurimkkot_cell cells[CELLS], list[LIST], read_back;
 static uint16_t places[3 * CELLS], at, fields[NURIMKKOT_CELL_FIELDS];
 static uint8_t sheet[sizeof exercise];
@@ -46,6 +51,11 @@ static void judge(void)
 static void mark_class(void)
 {
     said = nurimkkot_mark_class(settings, sizeof settings, exercise, sizeof exercise, class_sheet, sizeof class_sheet, rows, lent, &filled);
+}
+
+static void minutes(void)
+{
+    said = nurimkkot_minutes(tablet, sizeof tablet, credits, credit_rows, listed, NURIMKKOT_LOG_ENTRIES, &credited, &listed_count);
 }
 
 static void check_lab(void)
@@ -233,6 +243,42 @@ static size_t classes(uint8_t verdict, size_t before)
     return used;
 }
 
+/* A log of as many entries as there may be, of these apprentices; every fourth covers no minute. */
+static void fill_log(uint32_t apprentices)
+{
+    static struct entry all[NURIMKKOT_LOG_ENTRIES];
+    uint16_t i;
+    for (i = 0; i < NURIMKKOT_LOG_ENTRIES; i++) {
+        all[i].apprentice = apprentices - i % apprentices;
+        all[i].opening = (uint16_t)(5 * i);
+        all[i].closing = (uint16_t)(5 * i + i % 4 * 3000 % 4001);
+    }
+    put_log(tablet, all, NURIMKKOT_LOG_ENTRIES);
+}
+
+/* A log of one apprentice, of as many as there may be and of one more; then with a minute above the week, and with a row too few.
+ * Gives the most that they used. */
+static size_t logs(void)
+{
+    size_t used;
+    fill_log(1);
+    used = less_than(MINUTES_LIMIT, "stack of nurimkkot_minutes", minutes, 0);
+    expect(said == 0 && credited == 1, "a log of one apprentice", said);
+    fill_log(NURIMKKOT_CREDIT_ROWS);
+    used = less_than(MINUTES_LIMIT, "stack of nurimkkot_minutes", minutes, used);
+    expect(said == 0 && credited == NURIMKKOT_CREDIT_ROWS && listed_count == NURIMKKOT_LOG_ENTRIES / 4, "a log of as many as there may be", said);
+    fill_log(NURIMKKOT_CREDIT_ROWS + 1);
+    used = less_than(MINUTES_LIMIT, "stack of nurimkkot_minutes", minutes, used);
+    expect(said == 86, "a log of one apprentice more", said);
+    tablet[sizeof tablet - 5] = 255;
+    used = less_than(MINUTES_LIMIT, "stack of nurimkkot_minutes", minutes, used);
+    expect(said == 85, "a log with a minute above the week", said);
+    credit_rows--;
+    used = less_than(MINUTES_LIMIT, "stack of nurimkkot_minutes", minutes, used);
+    expect(said == 87 && credited == 0 && listed_count == 0, "a log with a row too few", said);
+    return used;
+}
+
 /* The readers of both sheets. The first cell is a register, the last one combinational. Gives the most that one of them used. */
 static size_t readers(void)
 {
@@ -288,7 +334,7 @@ static size_t boards(void)
 
 int main(void)
 {
-    size_t judges = 0, marks = 0, checks = 0, reads, exercises, answers, settled;
+    size_t judges = 0, marks = 0, checks = 0, replays, reads, exercises, answers, settled;
     int served;
     /* Eight needs, which all get an entry; then the last of them, sload, gets none, and every other way is tried. */
     for (served = 1; served >= 0; served--) {
@@ -301,12 +347,13 @@ int main(void)
         marks = classes(expected, marks);
     }
     expect(checks > MARGIN && judges > MARGIN && marks > MARGIN, "the measuring itself", (long)judges);
+    replays = logs();
     reads = readers();
     writers(&exercises, &answers);
     settled = boards();
-    printf("C: stack: nurimkkot_judge %lu bytes, nurimkkot_mark_class %lu, nurimkkot_check_lab %lu, a reader at most %lu, "
+    printf("C: stack: nurimkkot_judge %lu bytes, nurimkkot_mark_class %lu, nurimkkot_minutes %lu, nurimkkot_check_lab %lu, a reader at most %lu, "
            "nurimkkot_write_exercise %lu, nurimkkot_write_answer %lu, the settings sheet at most %lu\n", (unsigned long)judges,
-           (unsigned long)marks, (unsigned long)checks, (unsigned long)reads, (unsigned long)exercises, (unsigned long)answers,
-           (unsigned long)settled);
+           (unsigned long)marks, (unsigned long)replays, (unsigned long)checks, (unsigned long)reads, (unsigned long)exercises,
+           (unsigned long)answers, (unsigned long)settled);
     return failures != 0;
 }

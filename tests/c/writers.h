@@ -56,16 +56,6 @@ static size_t needed(const struct input *in)
     return in->of_answer ? 11 + 4 * in->count : 9 + 24 * in->count;
 }
 
-/* Puts a number of so many bytes, low byte first; gives where the next one goes. */
-static uint8_t *put(uint8_t *at, uint32_t value, int bytes)
-{
-    for (; bytes > 0; bytes--) {
-        *at++ = (uint8_t)(value % 256);
-        value /= 256;
-    }
-    return at;
-}
-
 /* The bytes of the sheet, as docs/SHEETS.md lists them. */
 static void encode(const struct input *in, uint8_t *at)
 {

@@ -1,4 +1,5 @@
-"""What all tests of tools/class_sheets.py use: the library, a folder to try things in, and ways to call the script."""
+"""What all tests of tools/class_sheets.py use: the library, a folder to try things in, and ways to call the script. The tests of
+tools/tablet_log.py try theirs in such a place too."""
 
 import os
 import shutil
@@ -21,9 +22,11 @@ def by(apprentice):
 class Place:
     """The repository, the library, and a folder for files. said has all lines of standard error, without the command's name."""
 
+    script = class_sheets
+
     def __init__(self, top, work):
         self.top, self.shared_object = top, os.path.join(work, "libnurimkkot.so")
-        self.library = class_sheets.Library(self.shared_object)
+        self.library = self.script.Library(self.shared_object)
         self.folder = os.path.join(work, "folder")
         self.said = []
 
@@ -53,7 +56,7 @@ class Place:
 
     def run(self, verb, *options, **how):
         """Runs the script as a program: status, standard output, lines on standard error."""
-        call = [sys.executable, "-I", "-B", os.path.join(self.top, "tools", "class_sheets.py"), verb, self.shared_object, self.folder, *options]
+        call = [sys.executable, "-I", "-B", self.script.__file__, verb, self.shared_object, self.folder, *options]
         done = subprocess.run(call, stdout=how.pop("stdout", subprocess.PIPE), stderr=subprocess.PIPE, timeout=60, **how)
         lines = done.stderr.decode().splitlines()
         assert all(line.startswith("nurimkkot: ") and line.isprintable() for line in lines), lines

@@ -2,18 +2,22 @@
 //! sheets, also where the search for a way is long, how it grows with the number of
 //! cells, how the count of nets into a LAB grows with the number of reads, and what
 //! the least work takes in the same run; then the list check, the readers and the
-//! writers beside plain ones, and a class beside as many single calls.
+//! writers beside plain ones, a class beside as many single calls, and the minutes of
+//! a log beside a plain program and a fast one.
 
 mod class;
 mod generate;
 mod judge;
+mod minutes;
 mod plain;
 mod proved;
 mod settings;
+mod sweep;
 mod writer;
 
 use class::{Row, MOST};
 use generate::*;
+use minutes::{Credit, Entry, APPRENTICES, ENTRIES, WEEK};
 use plain::{CellRecord, Settings, Step};
 use settings::HOUSE;
 use std::hint::black_box;
@@ -653,6 +657,20 @@ const NO_ROW: Row = Row {
 // As many different classes in turn.
 const CLASSES: usize = 8;
 
+/// Microseconds per input of three works on the same inputs, in turn.
+fn in_turn<T>(inputs: &[T], mut works: [&mut dyn FnMut(&T); 3]) -> [f64; 3] {
+    let n = works.each_mut().map(|work| rounds(inputs, work));
+    let mut each = [Vec::new(), Vec::new(), Vec::new()];
+    // Fewer runs where a single round already fills the time.
+    let runs = if n[0] == 1 { RUNS / 3 } else { RUNS };
+    for _ in 0..runs {
+        for i in 0..3 {
+            each[i].push(run(inputs, n[i], &mut works[i]));
+        }
+    }
+    each.map(|times| median(times) / 1000.0)
+}
+
 /// Microseconds for a class in one call, in single calls, and by the Rust judge, in
 /// turn.
 fn mark_times(classes: &[Class]) -> [f64; 3] {
@@ -672,16 +690,7 @@ fn mark_times(classes: &[Class]) -> [f64; 3] {
             black_box(judge::judge(&HOUSE, &c.exercise, a, &mut other_route));
         }
     };
-    let n = rounds(classes, &mut whole);
-    let mut each = [Vec::new(), Vec::new(), Vec::new()];
-    // Fewer runs where a single round already fills the time.
-    let runs = if n == 1 { RUNS / 3 } else { RUNS };
-    for _ in 0..runs {
-        each[0].push(run(classes, n, &mut whole));
-        each[1].push(run(classes, n, &mut singles));
-        each[2].push(run(classes, n, &mut rust));
-    }
-    each.map(|times| median(times) / 1000.0)
+    in_turn(classes, [&mut whole, &mut singles, &mut rust])
 }
 
 /// All three say the same of the class.
@@ -723,6 +732,135 @@ fn classes(rng: &mut Rng) {
                 whole / rust
             );
         }
+    }
+}
+
+const NO_CREDIT: Credit = Credit {
+    apprentice: 0,
+    minutes: 0,
+};
+
+/// So many entries by eighteen apprentices, in the order of their openings: each up to
+/// four hours in the day time, at one of three logins.
+fn class_week(rng: &mut Rng, count: usize) -> Vec<Entry> {
+    let mut list = Vec::with_capacity(count);
+    for _ in 0..count {
+        let opening = (1440 * rng.below(7) + rng.range(420, 1080)) as u16;
+        // A few are closed as soon as they are opened.
+        let long = rng.range(0, 240) * (rng.below(50) != 0) as usize;
+        list.push(Entry {
+            apprentice: rng.range(101, 118) as u32,
+            verdict: rng.pick(&[0, 0, 0, 60, 61, 64]),
+            opening,
+            closing: opening + long as u16,
+            login: rng.range(1, 3) as u32,
+        });
+    }
+    list.sort_by_key(|e| e.opening);
+    list
+}
+
+/// So many entries by 64 apprentices with any numbers, as many by each, in any order.
+fn by_all(rng: &mut Rng, count: usize, minutes: fn(&mut Rng) -> [u16; 2]) -> Vec<Entry> {
+    let numbers: Vec<u32> = (0..APPRENTICES).map(|_| rng.next() as u32 | 1).collect();
+    let mut list = Vec::with_capacity(count);
+    for i in 0..count {
+        let [opening, closing] = minutes(rng);
+        list.push(Entry {
+            apprentice: numbers[i % APPRENTICES],
+            verdict: 0,
+            opening,
+            closing,
+            login: rng.pick(&numbers),
+        });
+    }
+    rng.shuffle(&mut list);
+    list
+}
+
+fn any_minutes(rng: &mut Rng) -> [u16; 2] {
+    let last = WEEK as usize;
+    let opening = rng.below(last);
+    [opening, rng.range(opening + 1, last)].map(|minute| minute as u16)
+}
+
+/// Microseconds for a log by the library, by the plain program and by the fast one.
+fn log_times(logs: &[Vec<u8>]) -> [f64; 3] {
+    let mut rows = [[NO_CREDIT; APPRENTICES]; 3];
+    let mut numbers = [[0u16; ENTRIES]; 3];
+    for log in logs {
+        let proved = proved::minutes(log, &mut rows[0], &mut numbers[0]);
+        assert_eq!(proved.0, 0);
+        assert_eq!(minutes::fill(log, &mut rows[1], &mut numbers[1]), proved);
+        assert_eq!(sweep::fill(log, &mut rows[2], &mut numbers[2]), proved);
+        assert!(rows[1] == rows[0] && rows[2] == rows[0]);
+        assert!(numbers[1] == numbers[0] && numbers[2] == numbers[0]);
+    }
+    let [r0, r1, r2] = &mut rows;
+    let [n0, n1, n2] = &mut numbers;
+    let mut proved = |log: &Vec<u8>| {
+        black_box(proved::minutes(log, r0, n0));
+    };
+    let mut plain = |log: &Vec<u8>| {
+        black_box(minutes::fill(log, r1, n1));
+    };
+    let mut fast = |log: &Vec<u8>| {
+        black_box(sweep::fill(log, r2, n2));
+    };
+    in_turn(logs, [&mut proved, &mut plain, &mut fast])
+}
+
+/// The minutes of a log beside a plain program, which marks every minute, and one that
+/// sorts, and how they grow with the number of entries.
+fn logs(rng: &mut Rng) {
+    println!();
+    println!("time per log, median of up to {RUNS} runs over {VARIANTS} logs");
+    println!(
+        "{:<18}{:>8}{:>13}{:>12}{:>12}{:>12}{:>9}{:>9}",
+        "log", "entries", "apprentices", "proved us", "plain us", "fast us", "/plain", "/fast"
+    );
+    type Make = fn(&mut Rng, usize) -> Vec<Entry>;
+    let random: Make = |r, n| by_all(r, n, any_minutes);
+    let kinds: [(&str, usize, usize, Make); 6] = [
+        ("class, one week", 300, 18, class_week),
+        ("whole weeks", ENTRIES, APPRENTICES, |r, n| {
+            by_all(r, n, |_| [0, WEEK])
+        }),
+        ("random", 128, APPRENTICES, random),
+        ("random", 256, APPRENTICES, random),
+        ("random", 512, APPRENTICES, random),
+        ("random", ENTRIES, APPRENTICES, random),
+    ];
+    let mut series = Vec::new();
+    for (what, count, people, make) in kinds {
+        let lists: Vec<Vec<Entry>> = (0..VARIANTS).map(|_| make(rng, count)).collect();
+        for list in &lists {
+            assert_eq!(minutes::apprentices(list).len(), people);
+        }
+        let logs: Vec<Vec<u8>> = lists.iter().map(|list| minutes::log(list)).collect();
+        let [proved, plain, fast] = log_times(&logs);
+        println!(
+            "{what:<18}{count:>8}{people:>13}{proved:>12.3}{plain:>12.3}{fast:>12.3}{:>9.2}{:>9.2}",
+            proved / plain,
+            proved / fast
+        );
+        series.push([proved, plain, fast]);
+    }
+    println!();
+    println!("growth: time at twice the entries over time before (2 is linear, 4 is square)");
+    println!(
+        "{:<18}{:>11}{:>12}{:>14}{:>19}",
+        "random", "128 to 256", "256 to 512", "512 to 1,024", "ns/entry at 1,024"
+    );
+    for (i, who) in ["proved", "plain", "fast"].into_iter().enumerate() {
+        let t: Vec<f64> = series[2..].iter().map(|times| times[i]).collect();
+        println!(
+            "{who:<18}{:>11.2}{:>12.2}{:>14.2}{:>19.1}",
+            t[1] / t[0],
+            t[2] / t[1],
+            t[3] / t[2],
+            t[3] * 1000.0 / ENTRIES as f64
+        );
     }
 }
 
@@ -805,4 +943,5 @@ fn main() {
     bounds(&mut rng, &growth);
     forms(&mut rng);
     classes(&mut rng);
+    logs(&mut rng);
 }

@@ -1,17 +1,23 @@
 //! Judges seeded pairs of sheets, each on a board, by the proved judge and by the
 //! Rust judge, reads them by the readers, checks the list of every LAB, writes them
-//! and others by the writers, marks classes, and stops at the first difference.
+//! and others by the writers, marks classes, credits the minutes of logs, and stops at
+//! the first difference.
 //! Arguments: number of pairs (200000), seed (1).
 
 mod boards;
 mod class;
 mod class_examples;
 mod class_sheets;
+mod crediting;
 mod faults;
 mod forms;
 mod generate;
 mod judge;
+mod log_cases;
+mod log_examples;
+mod logs;
 mod marking;
+mod minutes;
 mod nets;
 mod plain;
 mod proved;
@@ -29,6 +35,8 @@ use std::process::exit;
 const GUARD: usize = 64;
 /// One pair of so many gets a class.
 const PAIRS_TO_A_CLASS: usize = 2;
+/// And one of so many comes with a log.
+const PAIRS_TO_A_LOG: usize = 2;
 const NO_NEEDS: [u8; 8] = [255; 8];
 
 fn hex(title: &str, b: &[u8]) -> String {
@@ -790,6 +798,50 @@ fn report_refused_classes(seen: &marking::Counts) -> bool {
     missing || seen.beside == 0 || seen.still_good == 0
 }
 
+/// The same for the logs: those that are credited, then the refusals.
+fn report_logs(seen: &log_cases::Counts) -> bool {
+    let mut missing = by_number("logs, by number", &seen.numbers, &log_cases::LOG_NUMBERS);
+    let entries = ["0", "1", "2 to 63", "64 to 1,022", "1,023", "1,024"];
+    missing |= by_name("  credited, by entries", &entries, &seen.entries);
+    missing |= by_name("  with", &log_cases::CASES.map(|c| c.0), &seen.cases);
+    let either = ["credited", "refused"];
+    missing |= by_name("  with other logins and verdicts", &either, &seen.logins);
+    missing |= by_name("  in another order", &either, &seen.orders);
+    for (what, n) in [
+        ("  other entries listed then", seen.listed),
+        ("  lists as the call before left them", seen.left),
+        ("  changed and still good", seen.still_good),
+    ] {
+        println!("{what}: {n}");
+        missing |= n == 0;
+    }
+    report_refused_logs(seen) || missing
+}
+
+fn report_refused_logs(seen: &log_cases::Counts) -> bool {
+    let mut missing = rising("80, by length", &seen.short);
+    missing |= by_name("logs of 7 bytes", &["credited", "refused"], &seen.heads);
+    missing |= by_name("83, by count", &["1,025", "more", "65,535"], &seen.over);
+    missing |= by_name(
+        "85 in one entry",
+        &log_cases::BAD_ENTRIES,
+        &seen.bad_entries,
+    );
+    missing |= by_name(
+        "  beside 65 apprentices",
+        &log_cases::BESIDE_86,
+        &seen.beside_86,
+    );
+    missing |= by_name("86", &log_cases::TOO_MANY.map(|t| t.0), &seen.too_many);
+    let faults = logs::FAULTS.map(|f| f.2);
+    missing |= by_name("80 to 86 planted alone", &faults, &seen.faults);
+    let two = log_cases::BOTH.map(|[first, second]| format!("{first} and {second}"));
+    missing |= by_name("two of them", &two.each_ref().map(|t| &t[..]), &seen.both);
+    let lists = log_cases::OTHER_LISTS.map(|l| l.0);
+    missing |= by_name("87 for", &lists, &seen.other_lists);
+    by_number("  before", &seen.before, &log_cases::LOG_NUMBERS) || missing
+}
+
 fn main() {
     let mut args = std::env::args().skip(1);
     let mut number = |default: u64| match args.next() {
@@ -806,8 +858,8 @@ fn main() {
     let longest = 16384 + 2 * GUARD;
     let pattern: Vec<u8> = (0..longest + 4096).map(|_| rng.byte()).collect();
     let mut both = Both::new();
-    // The forms, the writes and the classes take nothing from the numbers that the
-    // pairs are made of.
+    // The forms, the writes, the classes and the logs take nothing from the numbers
+    // that the pairs are made of.
     let mut other = Rng::new(!seed);
     run_examples(&mut both, &mut other, &pattern);
 
@@ -831,6 +883,15 @@ fn main() {
         Ok(calls) => println!("{calls} settled calls for a class agree"),
         Err(wrong) => {
             print!("settled calls for a class: {wrong}");
+            exit(1);
+        }
+    }
+    let mut fifth = Rng::new(seed ^ 0x3333_3333);
+    let mut crediting = crediting::Crediting::new();
+    match crediting.settled(&mut fifth) {
+        Ok(calls) => println!("{calls} settled calls for a log agree"),
+        Err(wrong) => {
+            print!("settled calls for a log: {wrong}");
             exit(1);
         }
     }
@@ -889,6 +950,11 @@ fn main() {
                 fail(wrong);
             }
         }
+        if fifth.below(PAIRS_TO_A_LOG) == 0 {
+            if let Err(wrong) = crediting.log(&mut fifth, fill) {
+                fail(wrong);
+            }
+        }
     }
 
     println!(
@@ -906,6 +972,7 @@ fn main() {
     missing |= report_forms(&seen);
     missing |= report_writes(&writes.counts);
     missing |= report_classes(&marking.counts);
+    missing |= report_logs(&crediting.counts);
     if missing {
         println!("a number did not occur");
         exit(1);

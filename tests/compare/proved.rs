@@ -1,9 +1,10 @@
-//! The proved judge of an answer and of a class, readers, writers and list check,
-//! linked from the C static library.
+//! The proved judge of an answer and of a class, readers, writers, list check and
+//! minutes from a log, linked from the C static library.
 #![allow(dead_code)]
 
 use crate::class::Row;
 use crate::judge::Verdict;
+use crate::minutes::Credit;
 use crate::plain::{CellRecord, Settings, Step};
 
 extern "C" {
@@ -29,6 +30,16 @@ extern "C" {
         rows: *mut Row,
         count: usize,
         filled: *mut usize,
+    ) -> u8;
+    fn nurimkkot_minutes(
+        log: *const u8,
+        log_len: usize,
+        rows: *mut Credit,
+        row_count: usize,
+        entries: *mut u16,
+        entry_count: usize,
+        rows_filled: *mut usize,
+        entries_filled: *mut usize,
     ) -> u8;
     fn nurimkkot_open_exercise(exercise: *const u8, exercise_len: usize) -> u8;
     fn nurimkkot_open_answer(answer: *const u8, answer_len: usize) -> u8;
@@ -164,6 +175,32 @@ pub fn mark_class(
         "a number beside the rows filled"
     );
     (number, filled)
+}
+
+/// Number, and rows and entry numbers filled, as the library gives them.
+pub fn minutes(log: &[u8], rows: &mut [Credit], numbers: &mut [u16]) -> (u8, [usize; 2]) {
+    // Both counts between guards.
+    let mut filled = [0xdead_beef; 5];
+    let at = filled.as_mut_ptr();
+    let number = unsafe {
+        nurimkkot_minutes(
+            log.as_ptr(),
+            log.len(),
+            rows.as_mut_ptr(),
+            rows.len(),
+            numbers.as_mut_ptr(),
+            numbers.len(),
+            at.add(1),
+            at.add(3),
+        )
+    };
+    let [before, rows, between, numbers, after] = filled;
+    assert_eq!(
+        [before, between, after],
+        [0xdead_beef; 3],
+        "a number beside what is filled"
+    );
+    (number, [rows, numbers])
 }
 
 /// The row of one answer, by a single call.

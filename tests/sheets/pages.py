@@ -1,5 +1,5 @@
-"""Compares what docs/SHEETS.md, docs/SAMPLES.md, docs/VERDICTS.md and docs/CLASS.md show with the files, the tool and the judge: pages.py TOP.
-LIBDIR: folder of libc_api.a."""
+"""Compares what docs/SHEETS.md, docs/SAMPLES.md, docs/VERDICTS.md, docs/CLASS.md and docs/MINUTES.md show with the files, the tool and the judge:
+pages.py TOP. LIBDIR: folder of libc_api.a."""
 
 import os
 import re
@@ -88,6 +88,19 @@ def class_on_page(text):
         assert words.format(len(sheets.class_sheet(*[bytes(length)] * sheets.MAX_ANSWERS))) in section, length
 
 
+def log_on_page(text):
+    """The log: its head, an entry, the small log, and the largest one."""
+    fields = [(name, size) for name, _, size in sheets.ENTRY_FIELDS]
+    names = taken_apart(text, "samples/minutes-no-minutes/tablet.lxl", answer_field)
+    assert names == [("mark", 3), ("version", 2), ("entries", 2)] + [("entry %d, %s" % (i, name), size) for i in range(2) for name, size in fields], names
+    section = part(text, "## The tablets' log", "\n## ")
+    assert [row[:2] + row[3:] for row in rows(section)] == [["0", "3", "81"], ["3", "2", "82"], ["5", "2", "83"], ["7 + 14i", "14", "85"]]
+    entry = rows(part(section, "An entry, with offsets", "\n\nAn entry covers"))
+    assert [row[:2] for row in entry] == [[str(start), str(size)] for _, start, size in sheets.ENTRY_FIELDS], entry
+    assert [name in row[2] for row, (name, _) in zip(entry, fields)] == [True] * 5 and [row[3] for row in entry] == ["85", "", "85", "85", ""], entry
+    assert "The largest has {:,}.".format(len(sheets.log(*[(7, 0, 540, 600, 7)] * sheets.MAX_LOG))) in section
+
+
 def boards_on_page(text):
     """The settings sheet: its two boards, its head and its flags, and what the judge makes of the listing on the second board."""
     entries = lambda count: [("entry %d" % i, 1) for i in range(count)]
@@ -113,6 +126,7 @@ def sheets_page():
     text = page("SHEETS.md")
     boards_on_page(text)
     class_on_page(text)
+    log_on_page(text)
     ports = lambda i, names: [("cell %d, %s" % (i, name), 2) for name in names]
     head = lambda i: [("cell %d, kind" % i, 1), ("cell %d, flag" % i, 1)]
     assert taken_apart(text, "samples/listing/exercise.lxe", exercise_field) == (
@@ -216,27 +230,39 @@ def copy_for_command(folder):
     os.chmod(os.path.join(folder, "made-up", "rt"), 0o755)
 
 
-def class_commands():
-    """The commands of docs/CLASS.md and docs/SHEETS.md, one after the other. The first call links the library."""
+def library_commands():
+    """The commands of docs/CLASS.md, docs/MINUTES.md and docs/SHEETS.md, one after the other. The first call links the library."""
     with tempfile.TemporaryDirectory() as folder:
         copy_for_command(folder)
         path = os.path.join(folder, "made-up") + os.pathsep + os.environ["PATH"]
         subprocess.run(["./nurimkkot", "class", "samples/class"], cwd=folder, capture_output=True, env=dict(os.environ, PATH=path))
-        ran = commands("CLASS.md", folder, path) + commands("SHEETS.md", folder, path)
-        with open(os.path.join(folder, "marks.csv"), "rb") as file:
-            assert file.read() == stored("samples/class/class.csv")
+        ran = commands("CLASS.md", folder, path) + commands("MINUTES.md", folder, path) + commands("SHEETS.md", folder, path)
+        for name, sample in (("marks.csv", "samples/class/class.csv"), ("minutes.csv", "samples/minutes-class/minutes.csv")):
+            with open(os.path.join(folder, name), "rb") as file:
+                assert file.read() == stored(sample), name
     return ran
 
 
+def minutes_page():
+    """What docs/MINUTES.md says of the samples besides what the commands print."""
+    text, entries = page("MINUTES.md"), lambda name: stored("samples/%s/words.txt" % name).decode().splitlines()
+    assert "It has %s entries." % next(line for line in entries("minutes-class") if line.startswith("  entries")).split()[1] in text
+    assert "`%s`" % stored("samples/minutes-class/minutes.csv").decode().splitlines()[0] in text
+    spans = [list(map(int, re.search(r"apprentice 109, .*opening (\d+), closing (\d+)", line).groups()))
+             for line in entries("minutes-400-hours") if "apprentice 109," in line]
+    lengths = [closing - opening for opening, closing in spans]
+    assert "%s = {:,} minutes, %d hours".format(sum(lengths)) % (" + ".join(map("{:,}".format, lengths)), sum(lengths) // 60) in text, lengths
+
+
 def commands(name, top=TOP, path=os.environ["PATH"]):
-    """Each command behind a dollar sign prints what stands below it."""
+    """Each command behind a dollar sign prints what stands below it; a blank line is part of that where more of it follows."""
     ran, lines = 0, page(name).splitlines()
     for i, line in enumerate(lines):
         if not line.startswith("    $ "):
             continue
         shown = []
-        for below in lines[i + 1:]:
-            if not below.startswith("    ") or below.startswith("    $ "):
+        for below, after in zip(lines[i + 1:], lines[i + 2:] + [""]):
+            if not (below or after).startswith("    ") or (below or after).startswith("    $ "):
                 break
             shown.append(below[4:])
         done = subprocess.run(line[6:].replace("./example ", "target/c/example "), shell=True, cwd=top, text=True,
@@ -270,7 +296,7 @@ def counter():
 
 def links():
     """Every page that is linked to is there."""
-    for name in ("SHEETS.md", "SAMPLES.md", "VERDICTS.md", "TABLET.md", "CLASS.md"):
+    for name in ("SHEETS.md", "SAMPLES.md", "VERDICTS.md", "TABLET.md", "CLASS.md", "MINUTES.md"):
         for target in re.findall(r"\]\(([^)#]+)", page(name)):
             assert os.path.exists(os.path.join(TOP, "docs", target)), (name, target)
 
@@ -279,8 +305,9 @@ def main():
     sheets_page()
     limits_judged()
     boards_judged()
-    ran = commands("VERDICTS.md") + commands("SAMPLES.md") + class_commands()
-    assert ran >= 20, ran
+    minutes_page()
+    ran = commands("VERDICTS.md") + commands("SAMPLES.md") + library_commands()
+    assert ran >= 30, ran
     assert page("SAMPLES.md").endswith("The number in brackets is the verdict.\n\n" + sheets.list_samples())
     counter()
     links()

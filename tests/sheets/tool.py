@@ -12,10 +12,11 @@ TOP = sys.argv[1]
 TOOL = os.path.join(TOP, "tools", "sheets.py")
 sys.path.insert(0, os.path.join(TOP, "tools"))
 import sheets  # noqa: E402
-from sheets import (ACLR, CLK, ENA, GND, OPEN, SCLR, SLOAD, VCC, Signal, answer, class_sheet, comb, exercise, inv, net, patch,  # noqa: E402
-                    raw_answer, raw_exercise, raw_record, raw_settings, record, reg, save, settings, words)
+from sheets import (ACLR, CLK, ENA, GND, OPEN, SCLR, SLOAD, VCC, Signal, answer, class_sheet, comb, exercise, inv, log, net, patch,  # noqa: E402
+                    raw_answer, raw_exercise, raw_log, raw_record, raw_settings, record, reg, save, settings, words)
 
 CELL = comb(a=net(0), o=net(1))
+HOUR = (7, 0, 540, 600, 9)
 
 
 def refused(part, call):
@@ -91,6 +92,14 @@ def numbers_refused():
     refused("answer 1 is a sheet, not (2, 1, 0)", lambda: class_sheet(answer(1), (2, 1, 0)))
     refused("the length of answer 0 is 0 to 65535, not 65536", lambda: class_sheet(bytes(65536)))
 
+    refused("an entry count is 0 to 1024, not 1025", lambda: log(*[HOUR] * 1025))
+    refused("apprentice of entry 1 is 1 to 4294967295, not 0", lambda: log(HOUR, (0, 0, 540, 600, 9)))
+    refused("opening of entry 0 is 0 to 10080, not 10081", lambda: log((7, 0, 10081, 600, 9)))
+    refused("closing of entry 0 is 0 to 10080, not 10081", lambda: log((7, 0, 540, 10081, 9)))
+    refused("entry 1 is (apprentice, verdict, opening, closing, login), not (7, 540, 600)", lambda: log(HOUR, (7, 540, 600)))
+    refused("entry 0 is (apprentice, verdict, opening, closing, login), not 7", lambda: log(*HOUR))
+    refused("login of entry 0 is a whole number, not '9'", lambda: log((7, 0, 540, 600, "9")))
+
     # The raw forms ask only that a number fits.
     refused("a code is 0 to 65535, not 65536", lambda: raw_record(1, 0, [65536]))
     refused("a code is 0 to 65535, not 65536", lambda: comb(a=Signal(65536)))
@@ -102,6 +111,10 @@ def numbers_refused():
     refused("a version is 0 to 65535, not 65536", lambda: raw_settings(65536, None))
     refused("an entry count is 0 to 255, not 256", lambda: raw_settings(1, None, *[CLK] * 256))
     refused("entry 0 is 0 to 255, not 256", lambda: raw_settings(1, None, 256))
+    refused("verdict of entry 0 is 0 to 65535, not 65536", lambda: raw_log((7, 65536, 540, 600, 9)))
+    refused("login of entry 0 is 0 to 4294967295, not 4294967296", lambda: raw_log((7, 0, 540, 600, 2 ** 32)))
+    refused("apprentice of entry 0 is 0 to 4294967295, not -1", lambda: raw_log((-1, 0, 540, 600, 9)))
+    refused("an entry count is 0 to 65535, not 65536", lambda: raw_log(*[HOUR] * 65536))
     refused("the first byte of a patch is 0 to 8, not 9", lambda: patch(bytes(9), 9, 1))
     refused("the first byte of a patch is 0 to 8, not -1", lambda: patch(bytes(9), -1, 1))
     refused("range", lambda: patch(bytes(9), 0, 256))
@@ -124,6 +137,9 @@ def numbers_taken():
     assert sheets.HOUSE == bytes.fromhex("4C5854010006010503120C18") and sheets.SECOND[:8] == b"LXT\2\0\x08\2\0"
     assert class_sheet() == b"LXC\1\0\0\0" and class_sheet(b"", b"ab") == b"LXC\1\0\2\0\0\0\2\0ab"
     assert class_sheet(*[bytes(65535)] * 32) == b"LXC\1\0\x20\0" + (b"\xff\xff" + bytes(65535)) * 32
+    assert log() == b"LXL\1\0\0\0" and log((1, 2, 3, 4, 5)) == b"LXL\1\0\1\0\1\0\0\0\2\0\3\0\4\0\5\0\0\0"
+    assert log((2 ** 32 - 1, 65535, 10080, 0, 2 ** 32 - 1))[7:] == b"\xff" * 6 + b"\x60\x27\0\0" + b"\xff" * 4
+    assert raw_log((0, 0, 65535, 10081, 0))[7:] == bytes(6) + b"\xff\xff\x61\x27" + bytes(4) and len(log(*[HOUR] * 1024)) == 14343
     assert patch(bytes(3), 1, 7, 8) == b"\0\7\x08" and patch(bytes(3), 3) == bytes(3)
 
 
@@ -165,6 +181,35 @@ def settings_in_words():
         assert "\n  " + part in told(sheet), (part, told(sheet))
 
 
+def log_in_words():
+    """What is wrong with a log, and where; nothing is wrong with a good one."""
+    told = lambda sheet: "\n".join(sheets.log_words(sheet))
+    wrong = re.compile("bad:|cut short|missing|left over")
+    good = log(HOUR, (8, 20, 600, 600, 7))
+    for sheet in (log(), good, log(*[HOUR] * 1024), log((2 ** 32 - 1, 65535, 10080, 0, 0))):
+        assert not wrong.search(told(sheet)), told(sheet)
+    assert told(good) == ("log: 35 bytes\n  mark LXL\n  version 1\n  entries 2\nentry 0: apprentice 7, verdict 0, opening 540, closing 600, login 9\n"
+                          "entry 1: apprentice 8, verdict 20, opening 600, closing 600, login 7"), told(good)
+    assert told(None) == "log: no file, counts as empty"
+    for part, sheet in (("  header cut short, 0 of 7 bytes: 7 missing", b""),
+                        ("  header cut short, 6 of 7 bytes: 1 missing", good[:6]),
+                        ("  entries cut short: 02", good[:6]),
+                        ("  mark LXA, 4c 58 41 (bad: must be LXL)", b"LXA" + good[3:]),
+                        ("  version 2 (bad: must be 1)", patch(good, 3, 2)),
+                        ("  entries 1025 (bad: at most 1024)", raw_log(*[HOUR] * 1025)),
+                        ("entry 0: apprentice 0 (bad: must not be 0), verdict 0, opening", raw_log((0, 0, 0, 0, 0))),
+                        ("opening 10081 (bad: over 10080), closing 0, login", raw_log((7, 0, 10081, 0, 9))),
+                        ("opening 540, closing 65535 (bad: over 10080), login", raw_log((7, 0, 540, 65535, 9))),
+                        ("entry 1: entry cut short, 13 of 14 bytes: 08 00 00 00 14 00 58 02 58 02 07 00 00", good[:-1]),
+                        ("  bytes missing for entry 1", good[:-14]),
+                        ("  bytes missing for entries 0 to 1", good[:7]),
+                        ("  1 byte left over at the end: 00", good + b"\0")):
+        assert part in told(sheet), (part, told(sheet))
+    rng = random.Random(6)
+    for _ in range(500):
+        assert told(rng.choice([b"", b"LXL\1\0\4\0", b"LXL\1\0\xff\xff"]) + rng.randbytes(rng.randrange(80)))
+
+
 def limited():
     """The room of the tool when it is run: half a GiB, and ten seconds."""
     resource.setrlimit(resource.RLIMIT_AS, (2 ** 29, 2 ** 29))
@@ -196,6 +241,7 @@ def files(folder):
         one_line(why, "words", "--labs", ex, at(wrong))
         one_line(at(wrong), "words", "--settings", at(wrong), ex, an)
         one_line(why, "words", "--settings", at(wrong))
+        one_line(at(wrong) + ": ", "words", "--log", at(wrong))
     one_line("/dev/zero: is no regular file", "words", "/dev/zero", an)
     if os.path.exists("/dev/full"):
         with open("/dev/full", "w") as full:
@@ -222,11 +268,18 @@ def files(folder):
     assert done.returncode == 0 and done.stdout.startswith("settings: 1099511627776 bytes\n"), done
     assert done.stdout.endswith("\n  1099511627764 bytes left over at the end: 00 00 00 00 00 00 00 00 00 00 00 00 00 00 00 00 ...\n"), done
 
+    with open(at("log"), "wb") as file:
+        file.write(raw_log(HOUR))
+        file.truncate(2 ** 40)
+    done = command("words", "--log", at("log"))
+    assert done.returncode == 0 and done.stdout.startswith("log: 1099511627776 bytes\n"), done
+    assert done.stdout.endswith("\n  1099511627755 bytes left over at the end: 00 00 00 00 00 00 00 00 00 00 00 00 00 00 00 00 ...\n"), done
+
     # A call that is none gets the help.
     board = os.path.join(TOP, "boards", "house.lxt")
     for args in ([], ["word"], ["words"], ["words", ex], ["words", ex, an, an], ["words", "--labs", ex], ["make", "x"], ["list", "x"],
                  ["words", "--settings"], ["words", "--settings", board, ex], ["words", "--labs", "--settings", board],
-                 ["words", ex, an, "--settings", board]):
+                 ["words", ex, an, "--settings", board], ["words", "--log"], ["words", "--log", ex, an]):
         done = command(*args)
         assert done.returncode == 2 and not done.stdout and "sheets.py words" in done.stderr, args
 
@@ -260,6 +313,11 @@ def stored_words():
             assert sheets.run(["words"] + paths) == file.read(), name
         told += 1
     assert told > 90 and boards > 20, (told, boards)
+    for name, _, sheet, _ in sheets.log_samples():
+        with open(os.path.join(root, name, "words.txt")) as file:
+            text = file.read()
+        path = os.path.join(root, name, "tablet.lxl")
+        assert text == ("log: no file, counts as empty\n" if sheet is None else sheets.run(["words", "--log", path])), name
 
 
 def main():
@@ -267,6 +325,7 @@ def main():
     numbers_taken()
     any_bytes()
     settings_in_words()
+    log_in_words()
     stored_words()
     with tempfile.TemporaryDirectory() as folder:
         files(folder)

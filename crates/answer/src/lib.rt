@@ -2,9 +2,9 @@ use sheet::CellNumber;
 ghost use mathlib.Core.Path.{_≡_};
 ghost use mathlib.Core.Bool.{cond};
 ghost use mathlib.Core.List.{[]};
-ghost use Prim.Native.Nat.{_<_, _^_, min};
+ghost use Prim.Native.Nat.{min};
 ghost use lib.ListN.{length};
-ghost use Rattle.sheet.specs.Bytes.{u32At, beginsAt};
+ghost use Rattle.sheet.specs.Bytes.{beginsAt};
 ghost use Rattle.answer.specs.Answer.{apprentice, placeCount, wrongAnswerLength, answerNumber, openingNumber, placedOf, placedAt, placedNumber, placedValues, breaksPlace, placeFields, placeStart, placePart};
 
 // The header: where its numbers stand, and its size.
@@ -36,21 +36,11 @@ pub enum Placed {
     OutOfRange,
 }
 
-// The 32-bit number at a place, low half first.
-fn u32_at(s: &[u8], i: usize) -> u32
-    requires { ⌜ i < 2 ^ 31 ⌝ }
-    ensures { λ r. ⌜ r ≡ u32At (now (s .entry)) i ⌝ }
-{
-    let low = sheet::u16_at(s, i);
-    let high = sheet::u16_at(s, i + 2);
-    (low as u32) + 65536 * (high as u32)
-}
-
 // The answer's apprentice.
 pub fn apprentice(answer: &[u8]) -> u32
     ensures { λ r. ⌜ r ≡ apprentice (now (answer .entry)) ⌝ }
 {
-    u32_at(answer, APPRENTICE_AT)
+    sheet::u32_at(answer, APPRENTICE_AT)
 }
 
 // The answer's number of cells.

@@ -6,6 +6,7 @@ use exercise::RegisterCell;
 use lab_rules::LabResult;
 use reader::AnswerStep;
 use reader::ExerciseStep;
+use tablet_log::Credit;
 use writer::CellPlace;
 ghost use mathlib.Core.Path.{_≡_};
 ghost use mathlib.Core.Bool.{cond};
@@ -16,6 +17,7 @@ ghost use Rattle.settings.specs.House.{houseSettings};
 ghost use Rattle.judge.specs.Call.{call};
 ghost use Rattle.judge.specs.Judge.{judged, routed};
 ghost use Rattle.class.specs.Class.{marked, rowsAfter};
+ghost use Rattle.tablet_log.specs.Credited.{credited, creditsAfter, numbersAfter};
 ghost use Rattle.exercise.specs.Exercise.{exerciseNumber};
 ghost use Rattle.exercise.specs.Record.{combinationalValues, registerValues};
 ghost use Rattle.answer.specs.Answer.{openingNumber, placeValues};
@@ -100,6 +102,28 @@ pub extern "C" fn nurimkkot_mark_class(
     let marked = class::mark_class(settings, exercise, class_sheet, rows);
     *filled = marked.filled as usize;
     marked.number
+}
+
+// Credits the minutes of a tablet log, one row for each apprentice, and lists the numbers of the entries that cover none. Asks nothing of the contents: a log of
+// any bytes, any number of rows and entry numbers. A refusal, 80 to 87, leaves both as they are, with none filled.
+#[no_mangle]
+pub extern "C" fn nurimkkot_minutes(
+    log: &[u8],
+    rows: &mut [Credit],
+    entries: &mut [u16],
+    rows_filled: &mut usize,
+    entries_filled: &mut usize,
+) -> u8
+    ensures number { λ r. ⌜ r ≡ credited (now (log .entry)) (length (now (rows .entry))) (length (now (entries .entry))) .number ⌝ }
+    ensures minutes { λ _. ⌜ now (rows .exit) ≡ creditsAfter (now (log .entry)) (now (rows .entry)) (now (entries .entry)) ⌝ }
+    ensures listed { λ _. ⌜ now (entries .exit) ≡ numbersAfter (now (log .entry)) (now (rows .entry)) (now (entries .entry)) ⌝ }
+    ensures people { λ _. ⌜ now («rows_filled» .exit) ≡ credited (now (log .entry)) (length (now (rows .entry))) (length (now (entries .entry))) .rows ⌝ }
+    ensures empty { λ _. ⌜ now («entries_filled» .exit) ≡ credited (now (log .entry)) (length (now (rows .entry))) (length (now (entries .entry))) .entries ⌝ }
+{
+    let credited = credits::minutes(log, rows, entries);
+    *rows_filled = credited.rows as usize;
+    *entries_filled = credited.entries as usize;
+    credited.number
 }
 
 // The number of 10 to 14 that applies to an exercise, or 0.

@@ -7,11 +7,11 @@ use mathlib.Core.Bool.{not}
 use mathlib.Core.List.{List, [], _∷_, _++_, map}
 use lib.ListN.{length, drop, set, length-map}
 use lib.Dec.{eqb}
-use lib.Seq.{sets, sets-eq, length-sets}
+use lib.Seq.{sets, length-sets}
 use borrow.Author.Tests.{ne-eqb, ltb-false}
 use Rattle.sheet.specs.Lists.{below}
 use Rattle.sheet.specs.Bytes.{u16At, partAt}
-use Rattle.sheet.proofs.Lists.{map-suc, table-length, sets-append}
+use Rattle.sheet.proofs.Lists.{map-suc, table-length, store-behind, sets-front}
 use Rattle.sheet.proofs.Checks.{all-held}
 use Rattle.route.specs.Table.{Table, eightRows}
 use Rattle.settings.specs.Settings.{tableOf}
@@ -53,9 +53,8 @@ module _ (row : ℕ → List ℕ) where
   -- the row of the next answer is stored behind them
   store-next : (lent : List (List ℕ)) (i : ℕ) → set (sets lent 0 (map row (below i))) i (row i) ≡ sets lent 0 (map row (below (suc i)))
   store-next lent i =
-      let behind = sets-append lent 0 (map row (below i)) (row i ∷ []) in
-      let here : 0 + length (map row (below i)) ≡ i = omega (arith, table-length row i) in
-      (rw here at behind) ∙ ap (λ (rs : List (List ℕ)). sets lent 0 rs) (sym (map-suc row i))
+      let here = table-length row i in
+      (rw here at (store-behind lent (map row (below i)) (row i))) ∙ ap (λ (rs : List (List ℕ)). sets lent 0 rs) (sym (map-suc row i))
 
 pub record Stored (row : ℕ → List ℕ) (k : List ℕ) (lent : List (List ℕ)) (count i at : ℕ) (rows : List (List ℕ)) : Type 0 where
   pub walked : Walked k count i at
@@ -119,10 +118,7 @@ module _ (s e k : List ℕ) (lent : List (List ℕ)) (n : ℕ) (x : n ≡ refusa
   rows-count = length-map (map (answerOf k) (below (answerCount k))) (rowOf s e) ∙ table-length (answerOf k) (answerCount k)
 
   rows-are : n ≡ 0 → sets lent 0 (rowsOf s e k) ≡ rowsOf s e k ++ drop (length (rowsOf s e k)) lent
-  rows-are h =
-      let none : 0 + length (rowsOf s e k) ≡ length (rowsOf s e k) = omega arith in
-      sets-eq (rowsOf s e k) lent 0 (omega (arith, enough h, rows-count))
-      ∙ ap (λ (n : ℕ). rowsOf s e k ++ drop n lent) none
+  rows-are h = sets-front lent (rowsOf s e k) (omega (arith, enough h, rows-count))
 
   pub class-marked : (t : Table) (p : Prepared) (ds : List ℕ) (count : ℕ) (after : List (List ℕ)) → n ≡ 0 → t ≡ eightRows (tableOf s) → p ≡ preparedFor s e → ds ≡ driversFor s e → count ≡ answerCount k
       → after ≡ sets lent 0 (map (λ i. rowFrom t p ds e (answerOf k i)) (below count))

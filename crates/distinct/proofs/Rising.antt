@@ -40,13 +40,13 @@ insert-above b x [] h a = (h, tt)
 insert-above b x (y ∷ ys) h a =
     insert-cases (Above b) x y ys (λ p. (h, (p, a .1))) (λ _. a) (λ p. (a .0, insert-above (suc y) x ys p (a .1)))
 
-in-insert : (z x : ℕ) (l : List ℕ) → In z (insert x l) → (z ≡ x) ⊎ In z l
+pub in-insert : (z x : ℕ) (l : List ℕ) → In z (insert x l) → (z ≡ x) ⊎ In z l
 in-insert z x [] = λ m. m
 in-insert z x (y ∷ ys) =
     insert-cases (λ l. In z l → (z ≡ x) ⊎ In z (y ∷ ys)) x y ys (λ _ m. m) (λ _ m. inr m)
     (λ _. ⊎-elim (λ e. inr (inl e)) (λ m. ⊎-elim (λ e. inl e) (λ n. inr (inr n)) (in-insert z x ys m)))
 
-insert-in : (z x : ℕ) (l : List ℕ) → (z ≡ x) ⊎ In z l → In z (insert x l)
+pub insert-in : (z x : ℕ) (l : List ℕ) → (z ≡ x) ⊎ In z l → In z (insert x l)
 insert-in z x [] m = m
 insert-in z x (y ∷ ys) m =
     insert-cases (In z) x y ys (λ _. m) (λ q. ⊎-elim (λ e. inl (e ∙ q)) (λ n. n) m)
@@ -91,7 +91,7 @@ pub distinct-length : (xs : List ℕ) → distinct xs ≤ length xs
 distinct-length xs = omega (arith, all-length [] xs)
 
 -- ---- a rising list is known by its members
-in-above : (b z : ℕ) (l : List ℕ) → Above b l → In z l → b ≤ z
+pub in-above : (b z : ℕ) (l : List ℕ) → Above b l → In z l → b ≤ z
 in-above b z [] a m = absurd m
 in-above b z (x ∷ xs) a (inl e) = let g = a .0 in omega arith
 in-above b z (x ∷ xs) a (inr m) = let g = a .0 in omega (arith, in-above (suc x) z xs (a .1) m)

@@ -5,8 +5,8 @@ use mathlib.Core.Bool.{Bool, true, false, _&&_, _||_, or-assoc, or-false, or-tru
 use mathlib.Core.List.{List, [], _∷_, _++_, map, append-assoc, append-nil, map-append}
 use native.Mathlib.Nat.{zero-add}
 use native.Mathlib.Omega.{arith}
-use lib.ListN.{length, getD, set, replicate, length-map}
-use lib.Seq.{sets}
+use lib.ListN.{length, getD, set, drop, replicate, length-map}
+use lib.Seq.{sets, sets-eq}
 use lib.Dec.{eqb}
 use borrow.Author.Tests.{eqb-true, eqb-false, eq-eqb, ne-eqb}
 use Rattle.sheet.specs.Lists.{concatMap, filterb, anyb, from, below, elemb}
@@ -84,6 +84,16 @@ getD-all (suc n) (suc k) a = getD-all n k a
 pub sets-append : {A : Type 0} (l : List A) (at : ℕ) (a b : List A) → sets (sets l at a) (at + length a) b ≡ sets l at (a ++ b)
 sets-append l at [] b = let e : at + 0 ≡ at = omega arith in rw e
 sets-append l at (x ∷ a) b = let e : at + suc (length a) ≡ suc at + length a = omega arith in rw e (sets-append (set l at x) (suc at) a b)
+
+-- one more is stored right behind them
+pub store-behind : {A : Type 0} (lent xs : List A) (v : A) → set (sets lent 0 xs) (length xs) v ≡ sets lent 0 (xs ++ (v ∷ []))
+store-behind lent xs v = let here : 0 + length xs ≡ length xs = omega arith in rw here at (sets-append lent 0 xs (v ∷ []))
+
+-- what is stored from the first place on stands before what stays
+pub sets-front : {A : Type 0} (lent xs : List A) → length xs ≤ length lent → sets lent 0 xs ≡ xs ++ drop (length xs) lent
+sets-front lent xs h =
+    let here : 0 + length xs ≡ length xs = omega arith in
+    sets-eq xs lent 0 (omega arith) ∙ rw here
 
 pub concat-append : {A B : Type 0} (f : A → List B) (xs ys : List A) → concatMap f (xs ++ ys) ≡ concatMap f xs ++ concatMap f ys
 concat-append f [] ys = refl

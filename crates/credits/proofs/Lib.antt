@@ -1,0 +1,4 @@
+pub mod Tallied
+pub mod Ordered
+pub mod Walks
+pub mod Outcome

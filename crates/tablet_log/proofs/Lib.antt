@@ -1,0 +1,4 @@
+pub mod Listing
+pub mod Unread
+pub mod Order
+pub mod Totals

@@ -1,0 +1,5 @@
+pub mod Log
+pub mod Minutes
+pub mod Credited
+pub mod Pairs
+pub mod Alike
