@@ -1,14 +1,13 @@
 -- The sorted keys put the entries in order, by apprentice and opening minute, and they are the entries of the log. Assumes nothing.
 use Prim.Native.Nat.{ℕ, zero, suc, _+_, _*_, _%_, _≤_, _<_}
-use mathlib.Core.Path.{_≡_, refl, ap, _∙_}
+use mathlib.Core.Path.{_≡_, refl, ap}
 use mathlib.Core.Bool.{false, _||_}
 use mathlib.Core.List.{List, [], _∷_, map, List·Permᴰ, List·Permᴰ·nil, List·Permᴰ·cons, List·Permᴰ·swap, List·Permᴰ·trans}
 use native.Mathlib.Omega.{arith}
 use lib.Dec.{eqb, ltb}
 use borrow.Author.Tests.{eqb-false, ltb-false}
-use Rattle.sheet.specs.Lists.{Every, anyb, from, below}
+use Rattle.sheet.specs.Lists.{Every, from, below}
 use Rattle.sheet.proofs.Laws.{or-parts}
-use Rattle.sheet.proofs.Lists.{or-middle}
 use Rattle.sheet.proofs.Scan.{none-at}
 use Rattle.sorting.specs.Sorted.{sorted}
 use Rattle.sorting.proofs.Order.{Ascending, sorted-ascending, sorted-order, sorted-every}

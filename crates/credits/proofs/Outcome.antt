@@ -1,15 +1,15 @@
 -- The ways out of `credit` and `minutes`: refused, or both lists filled. Assumes nothing.
 use Prim.Native.Nat.{ℕ, _≤_, _<_}
-use mathlib.Core.Path.{_≡_, refl, sym, ap, _∙_}
+use mathlib.Core.Path.{_≡_, refl, ap, _∙_}
 use mathlib.Core.Bool.{true, false, cond}
-use mathlib.Core.List.{List, [], _∷_, _++_, map}
+use mathlib.Core.List.{List, [], _∷_, map}
 use native.Mathlib.Omega.{arith}
 use lib.ListN.{length, length-map}
 use lib.Seq.{sets}
 use lib.Dec.{eqb, ltb}
 use borrow.Author.Tests.{eq-eqb, ne-eqb, lt-ltb, le-ltb, ltb-false}
 use Rattle.sheet.specs.Lists.{below}
-use Rattle.sheet.specs.Checks.{check, firstNumber}
+use Rattle.sheet.specs.Checks.{check}
 use Rattle.sheet.proofs.Lists.{filter-length, below-length, sets-front}
 use Rattle.sheet.proofs.Checks.{all-held, in-turn}
 use Rattle.tablet_log.specs.declared.Credited.{Credited}
@@ -46,11 +46,12 @@ module _ (l : List ℕ) (rows : List (List ℕ)) (numbers : List ℕ) where
   unfolding credited creditsAfter numbersAfter
   refused-by n r e k h = let other = ne-eqb n 0 h in (e ∙ rw (k, other), (rw (k, other), rw (k, other)))
 
-  -- 87
+  -- 87, by either list
   pub refused-rows : (r : Credited) → r ≡ record { number = 87; rows = 0; entries = 0 } → (length rows ≡ 64 → ⊥) → Outcome l rows numbers r rows numbers
   unfolding refusal
   refused-rows r e h = refused-by 87 r e (rw (ne-eqb (length rows) 64 h)) (λ z. omega arith)
 
+  -- 87
   pub refused-numbers : (r : Credited) → r ≡ record { number = 87; rows = 0; entries = 0 } → length rows ≡ 64 → (length numbers ≡ 1024 → ⊥) → Outcome l rows numbers r rows numbers
   unfolding refusal
   refused-numbers r e g h = refused-by 87 r e (rw (eq-eqb (length rows) 64 g, ne-eqb (length numbers) 1024 h)) (λ z. omega arith)

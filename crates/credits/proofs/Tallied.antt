@@ -3,19 +3,17 @@
 use Prim.Native.Nat.{ℕ, suc, _+_, _-_, _≤_, _<_}
 use mathlib.Core.Path.{_≡_, refl, sym, ap, _∙_}
 use mathlib.Core.Logic.{_⊎_, inl, inr, ⊎-elim}
-use mathlib.Core.Bool.{Bool, true, false, cond, _||_, or-false, true≢false}
 use mathlib.Core.List.{List, [], _∷_, _++_, map, map-append, append-nil, append-assoc}
 use native.Mathlib.Omega.{arith}
-use native.Mathlib.Numerals.{add-one}
 use lib.ListN.{length, set, length-append, length-map}
 use lib.Seq.{sets, set-set}
-use lib.Dec.{eqb, ltb, leb}
+use lib.Dec.{eqb, ltb}
 use borrow.Author.Tests.{eq-eqb, ne-eqb, eqb-true, eqb-false, lt-ltb, le-ltb, ltb-true, ltb-false}
-use Rattle.sheet.specs.Lists.{concatMap, filterb, anyb, elemb, from}
+use Rattle.sheet.specs.Lists.{concatMap, filterb, elemb, from}
 use Rattle.sheet.proofs.Laws.{by-test, same-truth}
-use Rattle.sheet.proofs.Lists.{filter-append, concat-append, any-append, store-behind}
+use Rattle.sheet.proofs.Lists.{filter-append, concat-append, store-behind}
 use Rattle.distinct.specs.Rising.{rising, distinct}
-use Rattle.distinct.proofs.Rising.{In, Above, rising-above, in-rising, rising-in, rising-same, in-append, append-in, in-above}
+use Rattle.distinct.proofs.Rising.{In, rising-above, in-rising, rising-in, rising-same, in-append, append-in, in-above}
 use Rattle.distinct.proofs.Nets.{elem-in, in-elem, in-from, from-in, from-above}
 use Rattle.distinct.proofs.More.{distinct-run, last-above, rising-last, rising-again}
 use Rattle.tablet_log.specs.declared.Entry.{Entry}

@@ -19,6 +19,14 @@ struct Tally {
     minutes: u32,
 }
 
+// Before the first entry; no apprentice has the number 0.
+const NO_TALLY: Tally = Tally {
+    rows: 0,
+    apprentice: 0,
+    until: 0,
+    minutes: 0,
+};
+
 // The key of entry i.
 fn key_at(log: &[u8], i: u16) -> u64
     ensures { λ r. ⌜ r ≡ keyAt (now (log .entry)) i ⌝ }
@@ -119,12 +127,7 @@ fn count_apprentices(log: &[u8], keys: &[u64]) -> u16
     requires { ⌜ length (now keys) ≤ 1024 ⌝ }
     ensures { λ r. ⌜ r ≡ tallyOf noTally (map (entryOf (now (log .entry))) (now (keys .entry))) .rows ⌝ }
 {
-    let mut t = Tally {
-        rows: 0,
-        apprentice: 0,
-        until: 0,
-        minutes: 0,
-    };
+    let mut t = NO_TALLY;
     let mut i: usize = 0;
     while i < keys.len() {
         t = tally_with(log, keys[i], t);
@@ -158,12 +161,7 @@ fn fill_rows(log: &[u8], keys: &[u64], rows: &mut [Credit])
     requires { ⌜ length (now keys) ≤ 1024 ⌝ }
     ensures { λ _. ⌜ now (rows .exit) ≡ rowsBy noTally (now (rows .entry)) (map (entryOf (now (log .entry))) (now (keys .entry))) ⌝ }
 {
-    let mut t = Tally {
-        rows: 0,
-        apprentice: 0,
-        until: 0,
-        minutes: 0,
-    };
+    let mut t = NO_TALLY;
     let mut i: usize = 0;
     while i < keys.len() {
         t = tally_with(log, keys[i], t);

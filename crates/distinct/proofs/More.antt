@@ -1,16 +1,17 @@
 -- One number more in a list: what becomes of its distinct numbers. Assumes nothing.
 use Prim.Native.Nat.{ℕ, zero, suc, _+_, _≤_, _<_}
 use mathlib.Core.Path.{_≡_, refl, sym, ap, _∙_}
-use mathlib.Core.Logic.{_⊎_, inl, inr, ⊎-elim}
+use mathlib.Core.Logic.{inl, inr, ⊎-elim}
 use mathlib.Core.Bool.{false, cond, true≢false}
 use mathlib.Core.List.{List, [], _∷_, _++_}
 use native.Mathlib.Omega.{arith}
 use lib.ListN.{length}
-use Rattle.sheet.specs.Lists.{elemb, from}
+use Rattle.sheet.specs.Lists.{elemb, from, below}
 use Rattle.sheet.proofs.Laws.{by-test}
+use Rattle.sheet.proofs.Lists.{below-length}
 use Rattle.distinct.specs.Rising.{insert, rising, distinct}
-use Rattle.distinct.proofs.Rising.{In, Above, insert-cases, insert-above, in-insert, insert-in, in-above, rising-above, in-rising, rising-in, rising-same, same, in-append, append-in}
-use Rattle.distinct.proofs.Nets.{elem-in, in-elem, from-above, in-from}
+use Rattle.distinct.proofs.Rising.{In, Above, insert-cases, insert-above, in-insert, insert-in, in-above, distinct-mono, distinct-length, rising-above, in-rising, rising-in, rising-same, same, in-append, append-in}
+use Rattle.distinct.proofs.Nets.{elem-in, in-elem, from-above, from-in}
 
 not-in : (z : ℕ) (l : List ℕ) → elemb z l ≡ false → In z l → ⊥
 not-in z l f m = true≢false (sym (in-elem z l m) ∙ f)
@@ -45,6 +46,11 @@ distinct-run s (suc m) xs h =
     (in-append s (from (suc s) m) xs (elem-in s (from (suc s) m ++ xs) t))))
     (λ t. t) in
     distinct-cons s (from (suc s) m ++ xs) ∙ rw new (omega (arith, rest))
+
+-- numbers below n are at most n different ones
+pub distinct-below : (n : ℕ) (xs : List ℕ) → ((z : ℕ) → In z xs → z < n) → distinct xs ≤ n
+distinct-below n xs h =
+    omega (arith, distinct-mono xs (below n) (λ z m. from-in z 0 n (omega arith) (omega (arith, h z m))), distinct-length (below n), below-length n)
 
 -- ---- behind
 pub last-above : (b z a : ℕ) (l : List ℕ) → Above b (l ++ (a ∷ [])) → In z l → z < a

@@ -2,3 +2,4 @@ pub mod Listing
 pub mod Unread
 pub mod Order
 pub mod Totals
+pub mod Week

@@ -15,6 +15,7 @@ use Rattle.tablet_log.specs.Log.{entryCount, entryAt, entries, badEntry,
 use Rattle.tablet_log.specs.Minutes.{minutesOf, isOwn, ownMinutes, credit, apprentices, rowOf, rowsOf, coversNone, emptyBelow, listedOf}
 use Rattle.tablet_log.specs.Credited.{anyBad, tooMany, refusal, credited, creditsAfter}
 use Rattle.tablet_log.specs.Alike.{Reordered}
+use Rattle.tablet_log.specs.Laws.{AnyOrder}
 use Rattle.tablet_log.proofs.Unread.{refusal-same}
 
 -- the numbers that entries give, one entry after the other, are the same in any order
@@ -68,16 +69,16 @@ module _ {es fs : List Entry} (d : List·Permᴰ es fs) where
       each (x ∷ xs) = rw (order-credit x, each xs)
 
 -- ---- two logs with the same head and the same entries in another order
-any-order : (p : Entry → Bool) {es fs : List Entry} → List·Permᴰ es fs → anyb p es ≡ anyb p fs
-any-order p List·Permᴰ·nil = refl
-any-order p (List·Permᴰ·cons {a = a} {b = b} e d) = rw (e, any-order p d)
-any-order p (List·Permᴰ·swap {a = a} {b = b} {a′ = c} {b′ = d} {l = es} e f) = rw (e, f) (swap (p d) (p c) (anyb p es))
+some-order : (p : Entry → Bool) {es fs : List Entry} → List·Permᴰ es fs → anyb p es ≡ anyb p fs
+some-order p List·Permᴰ·nil = refl
+some-order p (List·Permᴰ·cons {a = a} {b = b} e d) = rw (e, some-order p d)
+some-order p (List·Permᴰ·swap {a = a} {b = b} {a′ = c} {b′ = d} {l = es} e f) = rw (e, f) (swap (p d) (p c) (anyb p es))
   where
     swap : (x y z : Bool) → (x || (y || z)) ≡ (y || (x || z))
     swap true true z = refl
     swap true false z = refl
     swap false y z = refl
-any-order p (List·Permᴰ·trans d₁ d₂) = any-order p d₁ ∙ any-order p d₂
+some-order p (List·Permᴰ·trans d₁ d₂) = some-order p d₁ ∙ some-order p d₂
 
 filter-order : (p : Entry → Bool) {es fs : List Entry} → List·Permᴰ es fs → length (filterb p es) ≡ length (filterb p fs)
 filter-order p List·Permᴰ·nil = refl
@@ -96,7 +97,7 @@ filter-map : (p : Entry → Bool) (f : ℕ → Entry) (xs : List ℕ) → length
 filter-map p f [] = refl
 filter-map p f (x ∷ xs) = let rest = filter-map p f xs in by-test (p (f x)) (λ t. rw t (ap suc rest)) (λ t. rw t rest)
 
-bad-entries : (l : List ℕ) → anyBad l ≡ anyb badEntry (entries l)
+pub bad-entries : (l : List ℕ) → anyBad l ≡ anyb badEntry (entries l)
 unfolding anyBad badAt entries
 bad-entries l = any-map badEntry (entryAt l) (below (entryCount l))
 
@@ -108,13 +109,16 @@ module _ (k l : List ℕ) (h : Reordered k l) where
   order-refusal : (rows numbers : ℕ) → refusal k rows numbers ≡ refusal l rows numbers
   unfolding tooMany
   order-refusal =
-      refusal-same k l (h .long) (h .head) (bad-entries k ∙ any-order badEntry (h .order) ∙ sym (bad-entries l))
+      refusal-same k l (h .long) (h .head) (bad-entries k ∙ some-order badEntry (h .order) ∙ sym (bad-entries l))
       (ap (λ (xs : List ℕ). ltb 64 (length xs)) (order-apprentices (h .order)))
 
-  pub order-told : (rows numbers : ℕ) → credited k rows numbers ≡ credited l rows numbers
+  order-told : (rows numbers : ℕ) → credited k rows numbers ≡ credited l rows numbers
   unfolding credited
   order-told rows numbers = rw (order-refusal rows numbers, order-apprentices (h .order), empty-entries k, filter-order coversNone (h .order), ← empty-entries l)
 
-  pub order-credits-after : (rows : List (List ℕ)) (numbers : List ℕ) → creditsAfter k rows numbers ≡ creditsAfter l rows numbers
+  order-credits-after : (rows : List (List ℕ)) (numbers : List ℕ) → creditsAfter k rows numbers ≡ creditsAfter l rows numbers
   unfolding creditsAfter
   order-credits-after rows numbers = rw (order-refusal (length rows) (length numbers), order-rows (h .order))
+
+pub any-order : AnyOrder
+any-order k l h rows numbers = (order-told k l h (length rows) (length numbers), order-credits-after k l h rows numbers)

@@ -1,12 +1,12 @@
 -- The credits add up to the number of distinct (apprentice, minute) pairs. A pair more is a minute more of its own apprentice, and of nobody else.
 -- Assumes nothing.
-use Prim.Native.Nat.{ℕ, suc, _+_, _≤_}
+use Prim.Native.Nat.{ℕ, suc, _+_}
 use mathlib.Core.Path.{_≡_, refl, sym, ap, _∙_}
 use mathlib.Core.Logic.{_⊎_, inl, inr, ⊎-elim}
 use mathlib.Core.Bool.{cond}
 use mathlib.Core.List.{List, [], _∷_, _++_, map}
 use native.Mathlib.Omega.{arith}
-use lib.ListN.{length, take, length-map}
+use lib.ListN.{length-map}
 use lib.Seq.{take-append-seam}
 use lib.Dec.{eqb}
 use borrow.Author.Tests.{eq-eqb, ne-eqb, eqb-true, eqb-false}
@@ -18,7 +18,8 @@ use Rattle.distinct.proofs.More.{distinct-cons}
 use Rattle.tablet_log.specs.declared.Entry.{Entry}
 use Rattle.tablet_log.specs.Log.{entries}
 use Rattle.tablet_log.specs.Minutes.{minutesOf, isOwn, ownMinutes, credit, apprentices, rowOf, rowsOf}
-use Rattle.tablet_log.specs.Credited.{refusal, credited, creditsAfter}
+use Rattle.tablet_log.specs.Credited.{credited, creditsAfter}
+use Rattle.tablet_log.specs.Laws.{CreditsAddUp}
 use Rattle.tablet_log.specs.Pairs.{Pair, pair, pairsOf, allPairs, samePair, distinctPairs, creditsOf}
 
 -- ---- sums over the apprentices
@@ -117,18 +118,17 @@ unfolding creditsOf total
 rows-total es [] = refl
 rows-total es (x ∷ xs) = rw (rows-total es xs)
 
-pub credits-add-up : (es : List Entry) → creditsOf (rowsOf es) ≡ distinctPairs (allPairs es)
+entries-add-up : (es : List Entry) → creditsOf (rowsOf es) ≡ distinctPairs (allPairs es)
 unfolding rowsOf apprentices credit
-credits-add-up es =
+entries-add-up es =
     let xs = map (λ (e : Entry). e .apprentice) es in
     rows-total es (rising xs)
     ∙ total-same (credit es) (λ a. distinct (minutesFor a (allPairs es))) (rising xs) (λ a m. ap distinct (sym (for-all a es)))
     ∙ pairs-total (allPairs es) (rising xs) (rising-above xs) (λ z m. rising-in z xs (whose z es m))
 
--- the same of the rows at exit: those that the call says are filled
-pub written-add-up : (l : List ℕ) (rows : List (List ℕ)) (numbers : List ℕ) → refusal l (length rows) (length numbers) ≡ 0
-    → creditsOf (take (credited l (length rows) (length numbers) .rows) (creditsAfter l rows numbers)) ≡ distinctPairs (allPairs (entries l))
+-- the same of the rows at exit
+pub credits-add-up : CreditsAddUp
 unfolding credited creditsAfter rowsOf
-written-add-up l rows numbers h =
+credits-add-up l rows numbers h =
     let es = entries l in
-    rw (h, ← length-map (apprentices es) (rowOf es)) (ap creditsOf (take-append-seam (rowsOf es) _) ∙ credits-add-up es)
+    rw (h, ← length-map (apprentices es) (rowOf es)) (ap creditsOf (take-append-seam (rowsOf es) _) ∙ entries-add-up es)

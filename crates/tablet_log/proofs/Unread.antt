@@ -13,6 +13,7 @@ use Rattle.sheet.specs.Header.{wrongMark, wrongVersion}
 use Rattle.tablet_log.specs.Log.{entryCount, entryStart, entryAt, entries, badEntry, badAt}
 use Rattle.tablet_log.specs.Minutes.{coversNone, emptyBelow, listedOf}
 use Rattle.tablet_log.specs.Credited.{overLimit, wrongLength, anyBad, tooMany, refusal, credited, creditsAfter, numbersAfter}
+use Rattle.tablet_log.specs.Laws.{LoginsUnread}
 use Rattle.tablet_log.specs.Alike.{verdictOrLogin, Alike}
 
 map-same : {A B : Type 0} (f g : A → B) (xs : List A) → ((x : A) → f x ≡ g x) → map f xs ≡ map g xs
@@ -94,15 +95,18 @@ module _ (k l : List ℕ) (h : Alike k l) where
   same-refusal : (rows numbers : ℕ) → refusal k rows numbers ≡ refusal l rows numbers
   same-refusal = refusal-same k l (h .long) head same-bad same-many
 
-  pub same-told : (rows numbers : ℕ) → credited k rows numbers ≡ credited l rows numbers
+  same-told : (rows numbers : ℕ) → credited k rows numbers ≡ credited l rows numbers
   unfolding credited
   same-told rows numbers = rw (same-refusal rows numbers, same-entries, same-listed)
 
   module _ (rows : List (List ℕ)) (numbers : List ℕ) where
-    pub same-rows : creditsAfter k rows numbers ≡ creditsAfter l rows numbers
+    same-rows : creditsAfter k rows numbers ≡ creditsAfter l rows numbers
     unfolding creditsAfter
     same-rows = rw (same-refusal (length rows) (length numbers), same-entries)
 
-    pub same-numbers : numbersAfter k rows numbers ≡ numbersAfter l rows numbers
+    same-numbers : numbersAfter k rows numbers ≡ numbersAfter l rows numbers
     unfolding numbersAfter
     same-numbers = rw (same-refusal (length rows) (length numbers), same-listed)
+
+pub logins-unread : LoginsUnread
+logins-unread k l h rows numbers = (same-told k l h (length rows) (length numbers), (same-rows k l h rows numbers, same-numbers k l h rows numbers))

@@ -3,3 +3,4 @@ pub mod Minutes
 pub mod Credited
 pub mod Pairs
 pub mod Alike
+pub mod Laws

@@ -26,6 +26,13 @@ const HEADER: usize = 7;
 
 const ENTRY_SIZE: usize = 14;
 
+// Where the numbers of an entry stand; the verdict at 4 and the login at 10 are not read.
+const APPRENTICE_AT: usize = 0;
+
+const OPENING_AT: usize = 6;
+
+const CLOSING_AT: usize = 8;
+
 // What an entry says of whom to credit with what.
 pub struct Entry {
     pub apprentice: u32,
@@ -56,9 +63,9 @@ pub fn entry_at(log: &[u8], i: u16) -> Entry
 {
     let start = HEADER + ENTRY_SIZE * (i as usize);
     Entry {
-        apprentice: sheet::u32_at(log, start),
-        opening: sheet::u16_at(log, start + 6),
-        closing: sheet::u16_at(log, start + 8),
+        apprentice: sheet::u32_at(log, start + APPRENTICE_AT),
+        opening: sheet::u16_at(log, start + OPENING_AT),
+        closing: sheet::u16_at(log, start + CLOSING_AT),
     }
 }
 

@@ -1,6 +1,6 @@
 -- A scan over the entries: it found one that is bad, or it came to the end.
 use Prim.Native.Nat.{_-_}
-use mathlib.Core.Path.{sym, _∙_}
+use mathlib.Core.Path.{sym}
 use Rattle.tablet_log.specs.Log.{badAt}
 use Rattle.tablet_log.specs.Credited.{anyBad}
 use Rattle.sheet.proofs.Scan.{Scanned, scan, some-found, none-found}
