@@ -18,23 +18,10 @@ def words(place):
     for number, meaning in shared.MEANING.items():
         assert re.fullmatch(r"[A-Za-z0-9][A-Za-z0-9 ]*[A-Za-z0-9]", meaning) and len(meaning) <= 80, (number, meaning)
     assert len(set(shared.MEANING.values())) == len(shared.MEANING)
-    header = place.stored("c", "nurimkkot.h").decode()
-    for name, value in (("MOST_ANSWERS", class_sheets.MOST_ANSWERS), ("NONE", shared.NONE), ("ROUTE_SIZE", shared.ROUTE),
-                        ("HOUSE_SETTINGS", shared.HOUSE_SETTINGS)):
-        assert re.search(r"\bNURIMKKOT_%s (= )?%d\b" % (name, value), header), name
+    place.has_limits(MOST_ANSWERS=class_sheets.MOST_ANSWERS, NONE=shared.NONE, ROUTE_SIZE=shared.ROUTE, HOUSE_SETTINGS=shared.HOUSE_SETTINGS)
     return len(shared.MEANING)
 
 
 def lines(place):
-    """Every line on the page was said in some test, and every line that was said, but for those that no call of the command leads to, is on
-    the page."""
-    page = place.stored("docs", "CLASS.md").decode()
-    shown = re.findall(r"^\| `(.*?)` \|", page, re.M)
-    assert len(shown) == len(set(shown)) > 8, shown
-    forms = {line: re.compile(".*".join(map(re.escape, line.split("..")))) for line in shown}
-    left_out = re.compile("class_sheets.py takes|the library can't be used|class.lxc is refused with 77")
-    said = {line for line in place.said if not left_out.match(line)}
-    for line, form in forms.items():
-        assert any(form.fullmatch(words) for words in said), "no test says: " + line
-    for words_said in said:
-        assert any(form.fullmatch(words_said) for form in forms.values()), "docs/CLASS.md does not say: " + words_said
+    """The lines that refuse are those of the page."""
+    place.says("CLASS.md", "class_sheets.py takes|the library can't be used|class.lxc is refused with 77")

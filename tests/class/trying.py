@@ -2,6 +2,7 @@
 tools/tablet_log.py try theirs in such a place too."""
 
 import os
+import re
 import shutil
 import subprocess
 import sys
@@ -53,6 +54,25 @@ class Place:
         """A file of the repository."""
         with open(os.path.join(self.top, *path), "rb") as file:
             return file.read()
+
+    def has_limits(self, **limits):
+        """The header has these limits."""
+        header = self.stored("c", "nurimkkot.h").decode()
+        for name, value in limits.items():
+            assert re.search(r"\bNURIMKKOT_%s (= )?%d\b" % (name, value), header), name
+
+    def says(self, name, left_out):
+        """Every line on a page of docs/ was said in some test, and every line that was said, but for those that no call of the command leads to, is
+        on the page."""
+        page = self.stored("docs", name).decode()
+        shown = re.findall(r"^\| `(.*?)` \|", page, re.M)
+        assert len(shown) == len(set(shown)) > 8, shown
+        forms = {line: re.compile(".*".join(map(re.escape, line.split("..")))) for line in shown}
+        said = {line for line in self.said if not re.match(left_out, line)}
+        for line, form in forms.items():
+            assert any(form.fullmatch(words) for words in said), "no test says: " + line
+        for words in said:
+            assert any(form.fullmatch(words) for form in forms.values()), "docs/%s does not say: %s" % (name, words)
 
     def run(self, verb, *options, **how):
         """Runs the script as a program: status, standard output, lines on standard error."""

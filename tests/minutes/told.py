@@ -15,25 +15,13 @@ def words(place):
     assert set(tablet_log.MEANING) == numbers - {87} == set(range(80, 87)), numbers
     for number, meaning in tablet_log.MEANING.items():
         assert re.fullmatch(r"[a-z][A-Za-z0-9 ]*[A-Za-z0-9]", meaning) and len(meaning) <= 80, (number, meaning)
-    header = place.stored("c", "nurimkkot.h").decode()
-    for name, value in (("CREDIT_ROWS", tablet_log.MOST_APPRENTICES), ("LOG_ENTRIES", tablet_log.MOST_ENTRIES)):
-        assert re.search(r"\bNURIMKKOT_%s (= )?%d\b" % (name, value), header), name
+    place.has_limits(CREDIT_ROWS=tablet_log.MOST_APPRENTICES, LOG_ENTRIES=tablet_log.MOST_ENTRIES)
     return len(tablet_log.MEANING)
 
 
 def lines(place):
-    """Every line on the page was said in some test, and every line that was said, but for those that no call of the command leads to, is on
-    the page."""
-    page = place.stored("docs", "MINUTES.md").decode()
-    shown = re.findall(r"^\| `(.*?)` \|", page, re.M)
-    assert len(shown) == len(set(shown)) > 8, shown
-    forms = {line: re.compile(".*".join(map(re.escape, line.split("..")))) for line in shown}
-    left_out = re.compile("tablet_log.py takes|the library can't be used|tablet.lxl is refused with (87|99)")
-    said = {line for line in place.said if not left_out.match(line)}
-    for line, form in forms.items():
-        assert any(form.fullmatch(words_said) for words_said in said), "no test says: " + line
-    for words_said in said:
-        assert any(form.fullmatch(words_said) for form in forms.values()), "docs/MINUTES.md does not say: " + words_said
+    """The lines that refuse are those of the page."""
+    place.says("MINUTES.md", "tablet_log.py takes|the library can't be used|tablet.lxl is refused with (87|99)")
 
 
 def help_text(place):

@@ -1,8 +1,8 @@
 -- The sorted keys put the entries in order, by apprentice and opening minute, and they are the entries of the log. Assumes nothing.
 use Prim.Native.Nat.{ℕ, zero, suc, _+_, _*_, _%_, _≤_, _<_}
-use mathlib.Core.Path.{_≡_, refl, ap}
+use mathlib.Core.Path.{_≡_, refl}
 use mathlib.Core.Bool.{false, _||_}
-use mathlib.Core.List.{List, [], _∷_, map, List·Permᴰ, List·Permᴰ·nil, List·Permᴰ·cons, List·Permᴰ·swap, List·Permᴰ·trans}
+use mathlib.Core.List.{List, [], _∷_, map, List·Permᴰ, Permᴰ·map}
 use native.Mathlib.Omega.{arith}
 use lib.Dec.{eqb, ltb}
 use borrow.Author.Tests.{eqb-false, ltb-false}
@@ -74,12 +74,6 @@ module _ (l : List ℕ) where
   back i zero h = refl
   back i (suc k) h = rw (key-number i (omega arith), back (suc i) k (omega arith))
 
-  map-order : {ks js : List ℕ} → List·Permᴰ ks js → List·Permᴰ (map (entryOf l) ks) (map (entryOf l) js)
-  map-order List·Permᴰ·nil = List·Permᴰ·nil
-  map-order (List·Permᴰ·cons e d) = List·Permᴰ·cons (ap (entryOf l) e) (map-order d)
-  map-order (List·Permᴰ·swap e f) = List·Permᴰ·swap (ap (entryOf l) e) (ap (entryOf l) f)
-  map-order (List·Permᴰ·trans d₁ d₂) = List·Permᴰ·trans (map-order d₁) (map-order d₂)
-
   module _ (few : entryCount l ≤ 1024) (good : anyBad l ≡ false) where
     abbrev pub ordered : List Entry
     ordered = map (entryOf l) (keysOf l (entryCount l))
@@ -93,4 +87,4 @@ module _ (l : List ℕ) where
 
     pub ordered-order : List·Permᴰ ordered (entries l)
     unfolding keysOf entries
-    ordered-order = rw (← back 0 (entryCount l) (omega arith)) (map-order (sorted-order (map (keyAt l) (below (entryCount l)))))
+    ordered-order = rw (← back 0 (entryCount l) (omega arith)) (Permᴰ·map (entryOf l) (sorted-order (map (keyAt l) (below (entryCount l)))))

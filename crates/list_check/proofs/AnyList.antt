@@ -1,16 +1,17 @@
 -- The list check of any list. A list that passes 18 has the number of the settings sheet, or else the result of a LAB with its cells, whose number
 -- and route bytes speak of all ways; 18 asks how many records there are and whether one is unfit, so their order does not matter there either. Assumes nothing.
-use Prim.Native.Nat.{ℕ, suc, _≤_, _<_}
+use Prim.Native.Nat.{ℕ, _≤_, _<_}
 use mathlib.Core.Path.{_≡_, refl, sym, ap, _∙_}
 use mathlib.Core.Logic.{_↔_}
-use mathlib.Core.Bool.{Bool, true, false, cond, _||_}
-use mathlib.Core.List.{List, _∷_, map, List·Permᴰ, List·Permᴰ·nil, List·Permᴰ·cons, List·Permᴰ·swap, List·Permᴰ·trans, Permᴰ·map}
+use mathlib.Core.Bool.{Bool, true, false, cond}
+use mathlib.Core.List.{List, map, List·Permᴰ, Permᴰ·map}
 use native.Mathlib.Omega.{arith}
 use lib.ListN.{length, replicate}
 use lib.Dec.{eqb, ltb}
 use borrow.Author.Tests.{eqb-true, eqb-false, ne-eqb}
 use Rattle.sheet.specs.Lists.{anyb}
 use Rattle.sheet.proofs.Laws.{by-test, or-parts}
+use Rattle.sheet.proofs.Order.{length-order, test-order}
 use Rattle.route.specs.Table.{Table}
 use Rattle.route.specs.Route.{HoldsEarliest}
 use Rattle.lab_rules.specs.declared.LabResult.{LabResult}
@@ -26,29 +27,10 @@ use Rattle.list_check.specs.AnyList.{cellsOf, listNeeds, KeepsTo64, AnyL
 use Rattle.list_check.proofs.Taken.{all-fit, list-is-lab, list-unset, list-refused}
 
 -- ---- 18 in another order
-or-swap : (a b c : Bool) → a || (b || c) ≡ b || (a || c)
-or-swap true true c = refl
-or-swap true false c = refl
-or-swap false true c = refl
-or-swap false false c = refl
-
-module _ {A : Type 0} where
-  same-length : (xs ys : List A) → List·Permᴰ xs ys → length xs ≡ length ys
-  same-length xs ys List·Permᴰ·nil = refl
-  same-length (a ∷ xs) (b ∷ ys) (List·Permᴰ·cons e p) = ap suc (same-length xs ys p)
-  same-length (a ∷ b ∷ xs) (c ∷ d ∷ ys) (List·Permᴰ·swap e g) = refl
-  same-length xs ys (List·Permᴰ·trans {l₂ = zs} p q) = same-length xs zs p ∙ same-length zs ys q
-
-  any-same : (p : A → Bool) (xs ys : List A) → List·Permᴰ xs ys → anyb p xs ≡ anyb p ys
-  any-same p xs ys List·Permᴰ·nil = refl
-  any-same p (a ∷ xs) (b ∷ ys) (List·Permᴰ·cons e q) = rw (e, any-same p xs ys q)
-  any-same p (a ∷ b ∷ xs) (c ∷ d ∷ ys) (List·Permᴰ·swap e g) = rw (e, g) (or-swap (p d) (p c) (anyb p ys))
-  any-same p xs ys (List·Permᴰ·trans {l₂ = zs} q r) = any-same p xs zs q ∙ any-same p zs ys r
-
 module _ (cs ds : List Cell) (p : List·Permᴰ cs ds) where
   same-list : noList cs ≡ noList ds
   unfolding noList
-  same-list = rw (same-length cs ds p, any-same unfit (map recordFrom cs) (map recordFrom ds) (Permᴰ·map recordFrom p))
+  same-list = rw (length-order cs ds p, test-order unfit (map recordFrom cs) (map recordFrom ds) (Permᴰ·map recordFrom p))
 
   pub same-verdict : (s : List ℕ) → listVerdict s cs ≡ listVerdict s ds
   same-verdict s =

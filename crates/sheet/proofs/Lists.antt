@@ -39,6 +39,10 @@ module _ {A : Type 0} (p : A → Bool) where
   any-same q h [] = refl
   any-same q h (x ∷ xs) = rw (h x, any-same q h xs)
 
+  pub filter-same : (q : A → Bool) → ((x : A) → p x ≡ q x) → (xs : List A) → filterb p xs ≡ filterb q xs
+  filter-same q h [] = refl
+  filter-same q h (x ∷ xs) = rw (h x, filter-same q h xs)
+
   pub any-none : (q : A → Bool) → ((x : A) → p x ≡ false → q x ≡ false) → (xs : List A) → anyb p xs ≡ false → anyb q xs ≡ false
   any-none q h [] f = refl
   any-none q h (x ∷ xs) f = let g = or-parts (p x) (anyb p xs) f in rw (h x (g .0)) (any-none q h xs (g .1))

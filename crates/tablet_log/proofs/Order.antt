@@ -1,15 +1,14 @@
 -- The order of the entries does not matter: entries in another order have the same apprentices with the same credits, and as many of them cover nothing. Assumes nothing.
 use Prim.Native.Nat.{ℕ, suc}
 use mathlib.Core.Path.{_≡_, refl, sym, ap, _∙_}
-use mathlib.Core.Logic.{inl, inr, ⊎-elim}
-use mathlib.Core.Bool.{Bool, true, false, cond, _||_}
-use mathlib.Core.List.{List, [], _∷_, _++_, map, List·Permᴰ, List·Permᴰ·nil, List·Permᴰ·cons, List·Permᴰ·swap, List·Permᴰ·trans, Permᴰ·symm}
+use mathlib.Core.Bool.{Bool, cond}
+use mathlib.Core.List.{List, [], _∷_, map, List·Permᴰ}
 use lib.ListN.{length}
 use lib.Dec.{ltb}
 use Rattle.sheet.specs.Lists.{anyb, filterb, concatMap, below}
 use Rattle.sheet.proofs.Laws.{by-test}
-use Rattle.distinct.specs.Rising.{rising}
-use Rattle.distinct.proofs.Rising.{In, rising-same, in-append, append-in}
+use Rattle.sheet.proofs.Order.{test-order, count-order}
+use Rattle.distinct.proofs.Order.{rising-brought}
 use Rattle.tablet_log.specs.declared.Entry.{Entry}
 use Rattle.tablet_log.specs.Log.{entryCount, entryAt, entries, badEntry, badAt}
 use Rattle.tablet_log.specs.Minutes.{minutesOf, isOwn, ownMinutes, credit, apprentices, rowOf, rowsOf, coversNone, emptyBelow, listedOf}
@@ -17,23 +16,6 @@ use Rattle.tablet_log.specs.Credited.{anyBad, tooMany, refusal, credited
 use Rattle.tablet_log.specs.Alike.{Reordered}
 use Rattle.tablet_log.specs.Laws.{AnyOrder}
 use Rattle.tablet_log.proofs.Unread.{refusal-same}
-
--- the numbers that entries give, one entry after the other, are the same in any order
-module _ (f : Entry → List ℕ) (z : ℕ) where
-  moved : {es fs : List Entry} → List·Permᴰ es fs → In z (concatMap f es) → In z (concatMap f fs)
-  moved List·Permᴰ·nil m = m
-  moved (List·Permᴰ·cons {a = a} {b = b} {l₁ = es} {l₂ = fs} e d) m =
-      append-in z (f b) (concatMap f fs) (⊎-elim (λ n. inl (rw e at n)) (λ n. inr (moved d n)) (in-append z (f a) (concatMap f es) m))
-  moved (List·Permᴰ·swap {a = a} {b = b} {a′ = c} {b′ = d} {l = es} p q) m =
-      let rest = concatMap f es in
-      append-in z (f c) (f d ++ rest)
-      (⊎-elim (λ n. inr (append-in z (f d) rest (inl (rw p at n))))
-      (λ n. ⊎-elim (λ o. inl (rw q at o)) (λ o. inr (append-in z (f d) rest (inr o))) (in-append z (f b) rest n))
-      (in-append z (f a) (f b ++ rest) m))
-  moved (List·Permᴰ·trans d₁ d₂) m = moved d₂ (moved d₁ m)
-
-same-rising : (f : Entry → List ℕ) {es fs : List Entry} → List·Permᴰ es fs → rising (concatMap f es) ≡ rising (concatMap f fs)
-same-rising f {es} {fs} d = rising-same (concatMap f es) (concatMap f fs) (λ z m. moved f z d m) (λ z m. moved f z (Permᴰ·symm d) m)
 
 -- an entry's apprentice, and its minutes where it is a's own
 abbrev whom : Entry → List ℕ
@@ -54,11 +36,11 @@ all-mine a (e ∷ es) = by-test (isOwn a e) (λ t. rw (t, all-mine a es)) (λ t.
 module _ {es fs : List Entry} (d : List·Permᴰ es fs) where
   pub order-apprentices : apprentices es ≡ apprentices fs
   unfolding apprentices
-  order-apprentices = rw (← all-whom es, ← all-whom fs) (same-rising whom d)
+  order-apprentices = rw (← all-whom es, ← all-whom fs) (rising-brought whom es fs d)
 
   pub order-credit : (a : ℕ) → credit es a ≡ credit fs a
   unfolding credit
-  order-credit a = rw (← all-mine a es, ← all-mine a fs) (ap length (same-rising (mine a) d))
+  order-credit a = rw (← all-mine a es, ← all-mine a fs) (ap length (rising-brought (mine a) es fs d))
 
   pub order-rows : rowsOf es ≡ rowsOf fs
   unfolding rowsOf
@@ -69,26 +51,6 @@ module _ {es fs : List Entry} (d : List·Permᴰ es fs) where
       each (x ∷ xs) = rw (order-credit x, each xs)
 
 -- ---- two logs with the same head and the same entries in another order
-some-order : (p : Entry → Bool) {es fs : List Entry} → List·Permᴰ es fs → anyb p es ≡ anyb p fs
-some-order p List·Permᴰ·nil = refl
-some-order p (List·Permᴰ·cons {a = a} {b = b} e d) = rw (e, some-order p d)
-some-order p (List·Permᴰ·swap {a = a} {b = b} {a′ = c} {b′ = d} {l = es} e f) = rw (e, f) (swap (p d) (p c) (anyb p es))
-  where
-    swap : (x y z : Bool) → (x || (y || z)) ≡ (y || (x || z))
-    swap true true z = refl
-    swap true false z = refl
-    swap false y z = refl
-some-order p (List·Permᴰ·trans d₁ d₂) = some-order p d₁ ∙ some-order p d₂
-
-filter-order : (p : Entry → Bool) {es fs : List Entry} → List·Permᴰ es fs → length (filterb p es) ≡ length (filterb p fs)
-filter-order p List·Permᴰ·nil = refl
-filter-order p (List·Permᴰ·cons {a = a} {b = b} e d) =
-    let rest = filter-order p d in
-    rw e (by-test (p b) (λ t. rw t (ap suc rest)) (λ t. rw t rest))
-filter-order p (List·Permᴰ·swap {a = a} {b = b} {a′ = c} {b′ = d} {l = es} e f) =
-    rw (e, f) (by-test (p c) (λ t. by-test (p d) (λ u. rw (t, u)) (λ u. rw (t, u))) (λ t. by-test (p d) (λ u. rw (t, u)) (λ u. rw (t, u))))
-filter-order p (List·Permᴰ·trans d₁ d₂) = filter-order p d₁ ∙ filter-order p d₂
-
 any-map : (p : Entry → Bool) (f : ℕ → Entry) (xs : List ℕ) → anyb (λ x. p (f x)) xs ≡ anyb p (map f xs)
 any-map p f [] = refl
 any-map p f (x ∷ xs) = rw (any-map p f xs)
@@ -109,12 +71,12 @@ module _ (k l : List ℕ) (h : Reordered k l) where
   order-refusal : (rows numbers : ℕ) → refusal k rows numbers ≡ refusal l rows numbers
   unfolding tooMany
   order-refusal =
-      refusal-same k l (h .long) (h .head) (bad-entries k ∙ some-order badEntry (h .order) ∙ sym (bad-entries l))
+      refusal-same k l (h .long) (h .head) (bad-entries k ∙ test-order badEntry (entries k) (entries l) (h .order) ∙ sym (bad-entries l))
       (ap (λ (xs : List ℕ). ltb 64 (length xs)) (order-apprentices (h .order)))
 
   order-told : (rows numbers : ℕ) → credited k rows numbers ≡ credited l rows numbers
   unfolding credited
-  order-told rows numbers = rw (order-refusal rows numbers, order-apprentices (h .order), empty-entries k, filter-order coversNone (h .order), ← empty-entries l)
+  order-told rows numbers = rw (order-refusal rows numbers, order-apprentices (h .order), empty-entries k, count-order coversNone (entries k) (entries l) (h .order), ← empty-entries l)
 
   order-credits-after : (rows : List (List ℕ)) (numbers : List ℕ) → creditsAfter k rows numbers ≡ creditsAfter l rows numbers
   unfolding creditsAfter

@@ -13,7 +13,7 @@ use borrow.Author.Tests.{eq-eqb, ne-eqb, eqb-true, eqb-false}
 use Rattle.sheet.specs.Lists.{anyb, elemb}
 use Rattle.sheet.proofs.Laws.{by-test}
 use Rattle.distinct.specs.Rising.{rising, distinct}
-use Rattle.distinct.proofs.Rising.{In, Above, rising-above, rising-in}
+use Rattle.distinct.proofs.Rising.{In, Above, in-above, rising-above, rising-in}
 use Rattle.distinct.proofs.More.{distinct-cons}
 use Rattle.tablet_log.specs.declared.Entry.{Entry}
 use Rattle.tablet_log.specs.Log.{entries}
@@ -38,12 +38,7 @@ total-none [] = refl
 total-none (a ∷ xs) = rw (total-none xs)
 
 past : (b z : ℕ) (xs : List ℕ) → Above (suc b) xs → In z xs → z ≡ b → ⊥
-past b z (x ∷ xs) h (inl e) q = omega (arith, h .0)
-past b z (x ∷ xs) h (inr m) q = past b z xs (lower xs (h .1)) m q
-  where
-    lower : (xs : List ℕ) → Above (suc x) xs → Above (suc b) xs
-    lower [] g = tt
-    lower (y ∷ ys) g = (omega (arith, g .0, h .0), g .1)
+past b z xs h m q = omega (arith, in-above (suc b) z xs h m)
 
 -- one more for a, who is in the list once
 total-more : (f g : ℕ → ℕ) (a b : ℕ) (xs : List ℕ) → Above b xs → In a xs → g a ≡ suc (f a)

@@ -1,14 +1,14 @@
 -- Verdicts and logins do not matter: logs that differ in these only get the same answer, and leave the same rows and entry numbers. Assumes nothing.
 use Prim.Native.Nat.{ℕ, _+_, _-_, _%_, _≤_, _<_}
 use mathlib.Core.Path.{_≡_, refl, ap}
-use mathlib.Core.Bool.{Bool, false}
+use mathlib.Core.Bool.{false}
 use mathlib.Core.List.{List, [], _∷_, map}
 use native.Mathlib.Omega.{arith}
 use lib.ListN.{length}
 use borrow.Author.Tests.{le-leb, lt-leb, le-ltb}
 use Rattle.sheet.specs.Bytes.{byteAt}
-use Rattle.sheet.specs.Lists.{filterb, below}
-use Rattle.sheet.proofs.Lists.{any-same}
+use Rattle.sheet.specs.Lists.{below}
+use Rattle.sheet.proofs.Lists.{any-same, filter-same}
 use Rattle.sheet.specs.Header.{wrongMark, wrongVersion}
 use Rattle.tablet_log.specs.Log.{entryCount, entryStart, entryAt, entries, badEntry, badAt}
 use Rattle.tablet_log.specs.Minutes.{coversNone, emptyBelow, listedOf}
@@ -19,10 +19,6 @@ use Rattle.tablet_log.specs.Alike.{verdictOrLogin, Alike}
 map-same : {A B : Type 0} (f g : A → B) (xs : List A) → ((x : A) → f x ≡ g x) → map f xs ≡ map g xs
 map-same f g [] h = refl
 map-same f g (x ∷ xs) h = rw (h x, map-same f g xs h)
-
-filter-same : {A : Type 0} (p q : A → Bool) (xs : List A) → ((x : A) → p x ≡ q x) → filterb p xs ≡ filterb q xs
-filter-same p q [] h = refl
-filter-same p q (x ∷ xs) h = rw (h x, filter-same p q xs h)
 
 -- the header's bytes, and the first four and bytes 6 to 9 of an entry
 header-read : (i : ℕ) → i < 7 → verdictOrLogin i ≡ false
@@ -82,7 +78,7 @@ module _ (k l : List ℕ) (h : Alike k l) where
 
   same-listed : listedOf k ≡ listedOf l
   unfolding emptyBelow
-  same-listed = rw same-count (filter-same (λ i. coversNone (entryAt k i)) (λ i. coversNone (entryAt l i)) (below (entryCount l)) (λ i. ap coversNone (same-entry i)))
+  same-listed = rw same-count (filter-same (λ i. coversNone (entryAt k i)) (λ i. coversNone (entryAt l i)) (λ i. ap coversNone (same-entry i)) (below (entryCount l)))
 
   same-bad : anyBad k ≡ anyBad l
   unfolding anyBad badAt
