@@ -9,6 +9,7 @@ int main(int argc, char **argv)
 {
     static uint8_t settings[SETTINGS_ROOM], exercise[EXERCISE_ROOM], answer[ANSWER_ROOM], route[NURIMKKOT_ROUTE_SIZE];
     static uint8_t occupied[1024];
+    static uint32_t tries[NURIMKKOT_TRIES];
     uint64_t numbers[NURIMKKOT_NUMBERS];
     size_t settings_length = read_board(&argc, &argv, settings), exercise_length, answer_length, i;
 
@@ -18,7 +19,8 @@ int main(int argc, char **argv)
     }
     exercise_length = read_file(argv[1], 1, exercise, sizeof exercise);
     answer_length = read_file(argv[2], 1, answer, sizeof answer);
-    nurimkkot_judge(settings, settings_length, exercise, exercise_length, answer, answer_length, route, sizeof route, numbers);
+    nurimkkot_judge(settings, settings_length, exercise, exercise_length, answer, answer_length, route, sizeof route, tries, NURIMKKOT_TRIES,
+                    numbers);
 
     printf("number %llu\n", (unsigned long long)numbers[NURIMKKOT_NUMBER]);
     printf("cell %llu\n", (unsigned long long)numbers[NURIMKKOT_CELL]);

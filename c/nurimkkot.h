@@ -10,8 +10,8 @@
  *     (tests/c/null.c), not proved;
  *   - a pointer is aligned for its type. The records in a sheet need not be: copy them, and do not cast `exercise + 9` to
  *     struct nurimkkot_cell *;
- *   - what the call writes (route, numbers, rows, *filled, *rows_filled, *entries_filled, *at, cell, place, sheet, entries, *length)
- *     overlaps nothing else that is passed to the same call. What it only reads may overlap.
+ *   - what the call writes (route, tries, numbers, rows, *filled, *rows_filled, *entries_filled, *at, cell, place, sheet, entries,
+ *     *length) overlaps nothing else that is passed to the same call. What it only reads may overlap.
  * Nothing is asked of the contents: a sheet, a log, a list and *at may hold anything, and a length, count or room may be any, also 0.
  *
  * Every call returns. It allocates nothing and keeps nothing, so threads may call at the same time, where none writes what another
@@ -32,6 +32,9 @@ extern "C" {
 
 /* The length of the judge's route buffer: eight bytes for each of 1,024 LABs. */
 #define NURIMKKOT_ROUTE_SIZE 8192
+
+/* The length of the judge's list of tries: a number for each of 1,024 LABs. */
+#define NURIMKKOT_TRIES 1024
 
 /* "None" in the cell and in the LAB of a verdict. */
 #define NURIMKKOT_NONE 65535
@@ -71,20 +74,31 @@ enum {
 
 /* Judges an exercise sheet and an answer sheet on the board of a settings sheet.
  *
- * settings   a sheet that is none gives a verdict of 70 to 75, after 1 and before all others. The board's number changes no verdict.
- * numbers    all seven are written, whatever the verdict.
+ * settings   a sheet that is none gives a verdict of 70 to 75, after 1 and 3 and before all others. The board's number changes no
+ *            verdict.
  * route      where the verdict is 0, all 8,192 bytes are written: for LAB n the eight bytes from 8 * n on are the control entries
  *            of two clk, two ena, two aclr, sclr and sload, NURIMKKOT_NO_ENTRY where there is no need. Where the verdict is another,
- *            not one byte is touched. A buffer that isn't exactly 8,192 bytes long gives verdict 1. */
+ *            not one byte is touched. A buffer that isn't exactly 8,192 bytes long gives verdict 1.
+ * tries      where the verdict is 0 or 65, all 1,024 numbers are written: number n is how many tries the search for the control
+ *            entries of LAB n made. It is 0 for an empty LAB, for one without needs and, on 65, for one above the LAB at fault. Where
+ *            the verdict is another, not one number is touched. `tries_count` is in numbers, not in bytes; one that isn't exactly
+ *            1,024 gives verdict 3, right after 1 and before all others.
+ * numbers    all seven are written, whatever the verdict.
+ *
+ * A try gives the first one or more of a LAB's needs an entry each, different ones that serve their roles. Of two that differ, the one
+ * with the smaller entry at the first need where they do comes first, and a shorter one comes before those that extend it. The tries of
+ * a LAB are those up to its route, the route itself counted; where it has none (65), all there are. That is at most 109,600 with eight
+ * needs and eight entries. */
 void nurimkkot_judge(const uint8_t *settings, size_t settings_length,
                      const uint8_t *exercise, size_t exercise_length,
                      const uint8_t *answer, size_t answer_length,
                      uint8_t *route, size_t route_length,
+                     uint32_t *tries, size_t tries_count,
                      uint64_t numbers[NURIMKKOT_NUMBERS]);
 
 /* A row: what the judge says of one answer of a class. It has no culprit; nurimkkot_judge tells it for that answer alone. */
 struct nurimkkot_row {
-    uint32_t number;     /* the verdict, as NURIMKKOT_NUMBER; never 1 */
+    uint32_t number;     /* the verdict, as NURIMKKOT_NUMBER; never 1 or 3 */
     uint32_t cell;       /* the cell at fault, or NURIMKKOT_NONE */
     uint32_t lab;        /* the LAB at fault, or NURIMKKOT_NONE */
     uint32_t apprentice; /* the number on that answer sheet; 0 for verdicts 10 to 23 and 70 to 75 */
@@ -97,8 +111,8 @@ struct nurimkkot_row {
  * sheet: a head and each answer sheet after its length.
  *
  * Returns 0 and fills one row for each answer, in the order of the answers, with the four numbers that nurimkkot_judge has for that
- * answer and a route buffer of the right size; *filled is how many. The rows past the last answer stay, and no route is written. A
- * settings sheet or an exercise that is refused shows in every row, never in what is returned.
+ * answer, a route buffer and a list of tries of the right size; *filled is how many. The rows past the last answer stay, and no route
+ * and no tries are written. A settings sheet or an exercise that is refused shows in every row, never in what is returned.
  *
  * Or returns the first of these that applies, before it looks at the other sheets; then not one row is touched, and *filled is 0:
  *   76  the class sheet has under 7 bytes, a wrong mark or version, more than 32 answers, or lengths that do not add up to its own;
@@ -163,7 +177,8 @@ struct nurimkkot_cell {
  *
  * Returns 18 if the list has over 32 cells, or a record that breaks the layout (at 1,024 nets) or one of rules 30 to 35; otherwise
  * the number of 70 to 75 that applies to the settings sheet; otherwise the lowest broken of rules 60 to 65; otherwise 0. All eight bytes
- * of `route` are written: the LAB's route bytes where the number is 0, eight times NURIMKKOT_NO_ENTRY where it is another.
+ * of `route` are written: the LAB's route bytes where the number is 0, eight times NURIMKKOT_NO_ENTRY where it is another. Tries are
+ * not told here.
  *
  * Beside the judge: for the same settings sheet, for sheets that pass all rules up to 51 and 70 to 75, and for a list of the records of
  * all cells that the answer puts into one LAB, whatever their order,

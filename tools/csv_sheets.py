@@ -14,40 +14,32 @@ after what was written has been read back and is what was meant. Exit status: 0 
 import ctypes
 import os
 import re
-import struct
 import sys
 from typing import NamedTuple
 
 sys.path.insert(0, os.path.dirname(os.path.realpath(__file__)))
 import shared  # noqa: E402
-from shared import EXERCISE_LXE, LARGEST_SHEET, MEANING, NONE, Refused, counted, put_in_place, read_file, same, shown  # noqa: E402
+from shared import (ANSWER_LXA, EXERCISE_LXE, LARGEST_SHEET, MEANING, NONE, RECORD, SETTINGS_LXT, Refused, counted, put_in_place,  # noqa: E402
+                    read_file, same, shown)
 
 EXERCISE_CSV, ANSWER_CSV, SETTINGS_CSV = TABLES = "exercise.csv", "answer.csv", "settings.csv"
-ANSWER_LXA, SETTINGS_LXT = "answer.lxa", "settings.lxt"
 SHEETS = EXERCISE_LXE, ANSWER_LXA, SETTINGS_LXT
 LARGEST_CSV = 32 << 20      # bytes
 
 
 # ---------------------------------------------------------------- the proved library
 
-RECORD = struct.Struct("=BB11H")        # struct nurimkkot_cell: kind, flag, eleven signals
-PLACE = struct.Struct("=3H")            # x, y, LE
-GIVEN, END = 0, 2                       # what a reader says
 MOST_ENTRIES = 8                        # that the reader of settings sheets gives
 LARGEST_16, LARGEST_32 = 0xffff, 0xffffffff
 
 
-class Library(shared.Judge):
+class Library(shared.Reader):
     """The judge, the readers and the writers. A record is 13 numbers, a place three, an entry a byte of flags."""
 
     def find_functions(self):
         super().find_functions()
         number, count, size = ctypes.c_uint8, ctypes.c_uint16, ctypes.c_size_t
         sheet, lent = ctypes.c_char_p, ctypes.c_void_p
-        self.c_open_exercise = self.function("open_exercise", number, sheet, size)
-        self.c_open_answer = self.function("open_answer", number, sheet, size)
-        self.c_next_record = self.function("next_record", number, sheet, size, lent, lent)
-        self.c_next_place = self.function("next_place", number, sheet, size, lent, lent)
         self.c_write_exercise = self.function("write_exercise", number, count, sheet, size, lent, size, lent)
         self.c_write_answer = self.function("write_answer", number, ctypes.c_uint32, lent, size, lent, size, lent)
         self.c_read_settings = self.function("read_settings", number, sheet, size, lent, lent)
@@ -56,25 +48,6 @@ class Library(shared.Judge):
     def judge(self, exercise, answer):
         """The verdict on document 01's board: no number up to 26 depends on the board."""
         return self.verdict(self.house_settings(), exercise, answer)
-
-    def read(self, step, form, sheet):
-        """All that a reader gives of a sheet, each in its form, or None where the reader stops before the end."""
-        at, lent, found = ctypes.c_uint16(0), (ctypes.c_uint16 * (form.size // 2))(), []
-        said = step(sheet, len(sheet), ctypes.byref(at), lent)
-        while said == GIVEN:
-            found.append(form.unpack(lent))
-            said = step(sheet, len(sheet), ctypes.byref(at), lent)
-        return found if said == END else None
-
-    def records(self, exercise):
-        """The records of an exercise sheet, or None where it does not open or one is broken."""
-        opens = self.c_open_exercise(exercise, len(exercise)) == 0
-        return self.read(self.c_next_record, RECORD, exercise) if opens else None
-
-    def places(self, answer):
-        """The places of an answer sheet, or None where it does not open or one is broken."""
-        opens = self.c_open_answer(answer, len(answer)) == 0
-        return self.read(self.c_next_place, PLACE, answer) if opens else None
 
     def settings(self, sheet):
         """The reader's number for a settings sheet, its version, its board and its entries."""

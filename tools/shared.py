@@ -7,9 +7,10 @@ import os
 import shutil
 import signal
 import stat
+import struct
 from typing import NamedTuple
 
-EXERCISE_LXE = "exercise.lxe"
+EXERCISE_LXE, ANSWER_LXA, SETTINGS_LXT = "exercise.lxe", "answer.lxa", "settings.lxt"
 LARGEST_SHEET = 12298       # one byte more than the largest legal exercise, answer or settings sheet has: the judge needs no more
 MOST_LINES = 20             # of mistakes that are shown
 
@@ -26,7 +27,11 @@ class Refused(Exception):
 
 HOUSE_SETTINGS = 12         # the length of the settings sheet of document 01's board
 ROUTE = 8192                # the length of the route buffer
+TRIES = 1024                # the length of the list of tries
 NONE = 65535                # in the place of a cell or LAB
+RECORD = struct.Struct("=BB11H")        # struct nurimkkot_cell: kind, flag, eleven signals
+PLACE = struct.Struct("=3H")            # x, y, LE
+GIVEN, END = 0, 2                       # what a reader says
 
 
 class Verdict(NamedTuple):
@@ -60,7 +65,7 @@ class Judge(Library):
     def find_functions(self):
         sheet, size, lent = ctypes.c_char_p, ctypes.c_size_t, ctypes.c_void_p
         self.c_house_settings = self.function("house_settings", None, lent)
-        self.c_judge = self.function("judge", None, sheet, size, sheet, size, sheet, size, lent, size, lent)
+        self.c_judge = self.function("judge", None, sheet, size, sheet, size, sheet, size, lent, size, lent, size, lent)
 
     def house_settings(self):
         """The settings sheet of document 01's board."""
@@ -68,11 +73,46 @@ class Judge(Library):
         self.c_house_settings(board)
         return board.raw
 
+    def judge_into(self, route, tries, settings, exercise, answer):
+        """What the judge says of one answer, with this route buffer and this list of tries lent."""
+        numbers = (ctypes.c_uint64 * 7)()
+        self.c_judge(settings, len(settings), exercise, len(exercise), answer, len(answer), route, len(route), tries, len(tries), numbers)
+        return Verdict(*numbers[:4])
+
     def verdict(self, settings, exercise, answer):
         """What the judge says of one answer."""
-        numbers, route = (ctypes.c_uint64 * 7)(), (ctypes.c_uint8 * ROUTE)()
-        self.c_judge(settings, len(settings), exercise, len(exercise), answer, len(answer), route, len(route), numbers)
-        return Verdict(*numbers[:4])
+        return self.judge_into((ctypes.c_uint8 * ROUTE)(), (ctypes.c_uint32 * TRIES)(), settings, exercise, answer)
+
+
+class Reader(Judge):
+    """The judge, and the readers of exercise and answer. A record is 13 numbers, a place three."""
+
+    def find_functions(self):
+        super().find_functions()
+        number, sheet, size, lent = ctypes.c_uint8, ctypes.c_char_p, ctypes.c_size_t, ctypes.c_void_p
+        self.c_open_exercise = self.function("open_exercise", number, sheet, size)
+        self.c_open_answer = self.function("open_answer", number, sheet, size)
+        self.c_next_record = self.function("next_record", number, sheet, size, lent, lent)
+        self.c_next_place = self.function("next_place", number, sheet, size, lent, lent)
+
+    def read(self, step, form, sheet):
+        """All that a reader gives of a sheet, each in its form, or None where the reader stops before the end."""
+        at, lent, found = ctypes.c_uint16(0), (ctypes.c_uint16 * (form.size // 2))(), []
+        said = step(sheet, len(sheet), ctypes.byref(at), lent)
+        while said == GIVEN:
+            found.append(form.unpack(lent))
+            said = step(sheet, len(sheet), ctypes.byref(at), lent)
+        return found if said == END else None
+
+    def records(self, exercise):
+        """The records of an exercise sheet, or None where it does not open or one is broken."""
+        opens = self.c_open_exercise(exercise, len(exercise)) == 0
+        return self.read(self.c_next_record, RECORD, exercise) if opens else None
+
+    def places(self, answer):
+        """The places of an answer sheet, or None where it does not open or one is broken."""
+        opens = self.c_open_answer(answer, len(answer)) == 0
+        return self.read(self.c_next_place, PLACE, answer) if opens else None
 
 
 # What each number says that the judge gives to sheets, in the words of docs/VERDICTS.md. No comma stands in them, so that they go into a CSV file
@@ -157,10 +197,10 @@ def csv_table(headings, rows):
     return [",".join(map(str, fields)) for fields in (headings, *rows)]
 
 
-def same(*pairs):
-    """Refuses what is not what was meant."""
+def same(*pairs, otherwise="what was made does not read back as it was meant, and nothing is written"):
+    """Refuses what is not what was meant, with this line."""
     if any(found != meant for found, meant in pairs):
-        raise Refused("what was made does not read back as it was meant, and nothing is written")
+        raise Refused(otherwise)
 
 
 # ---------------------------------------------------------------- files

@@ -13,8 +13,9 @@
 
 This tool builds sheets and prints sheets. It does not judge them. What the judge has to
 answer for a sample is written down next to the sample: the number, the cell, the LAB, the
-apprentice, the culprit and, for a legal answer, the route bytes of each occupied LAB; for a
-log the number, the minutes of each apprentice and the entries that cover nothing.
+apprentice, the culprit and, for a legal answer, the route bytes of each occupied LAB, for some
+also the tries of each occupied LAB; for a log the number, the minutes of each apprentice and the
+entries that cover nothing.
 
 To build sheets of your own, import it: see docs/SAMPLES.md. A wrong number is refused with a
 ValueError. Sheets that are wrong on purpose are built with raw_record, raw_exercise,
@@ -581,13 +582,15 @@ def labs_words(ex, an, cells):
 class Expected:
     """What the judge has to answer, written down by hand."""
 
-    def __init__(self, number, culprit, cell=NONE, lab=NONE, apprentice=0, routes=None):
+    def __init__(self, number, culprit, cell=NONE, lab=NONE, apprentice=0, routes=None,
+                 tries=None):
         self.number = number
         self.cell = cell
         self.lab = lab
         self.apprentice = apprentice
         self.culprit = culprit          # (sheet, start, length)
         self.routes = routes or {}      # LAB number -> eight route bytes
+        self.tries = tries              # where they are written down: the lines of Tries
 
     def route_lines(self):
         return "".join("route %d %s\n" % (lab, " ".join(str(b) for b in self.routes[lab]))
@@ -608,9 +611,12 @@ class Expected:
         return text
 
 
-def legal(apprentice, end, routes):
-    """A legal answer; end is the length of the answer sheet."""
-    return Expected(0, ("answer", end, 0), apprentice=apprentice, routes=routes)
+def legal(apprentice, end, routes, tries=None):
+    """A legal answer; end is the length of the answer sheet. With tries, a dictionary from LAB to
+    their number."""
+    if tries is not None:
+        tries = [(lab, tries[lab], 0, routes[lab]) for lab in sorted(routes)]
+    return Expected(0, ("answer", end, 0), apprentice=apprentice, routes=routes, tries=tries)
 
 
 def no_board(number, end):
@@ -619,6 +625,48 @@ def no_board(number, end):
 
 
 EMPTY = [F, F, F, F, F, F, F, F]    # an occupied LAB without needs
+
+
+class Tries:
+    """What './nurimkkot tries' prints of a verdict of 0 or 65 on a board. Each occupied LAB has a
+    line (LAB, tries, number, route): 0 and the eight route bytes, 65 and EMPTY, or, above a
+    refused LAB, None and EMPTY."""
+
+    MEANING = {0: "the answer is legal",
+               65: "the control entries of the board cannot serve the needs of the LAB"}
+
+    def __init__(self, expected, board):
+        self.expected = expected
+        self.board = board
+
+    def words(self, number, route):
+        if number is None:
+            return "not searched"
+        if number:
+            return "refused with %d" % number
+        entries = [(name, [str(b) for b in route[first:end] if b != F])
+                   for name, first, end in zip(ROLES, (0, 2, 4, 6, 7), (2, 4, 6, 7, 8))]
+        told = [" ".join([name] + found) for name, found in entries if found]
+        return ", ".join(told) or "no needs"
+
+    def lines(self):
+        where = "" if self.expected.lab == NONE else ", LAB %d" % self.expected.lab
+        text = "verdict %d on the board of %s%s: %s\n" % (
+            self.expected.number, self.board, where, self.MEANING[self.expected.number])
+        text += " lab     tries  route\n"
+        for lab, tries, number, route in self.expected.tries:
+            text += "%4d  %8d  %s\n" % (lab, tries, self.words(number, route))
+        return text + " sum  %8d\n" % sum(line[1] for line in self.expected.tries)
+
+    def csv(self):
+        """The same with --csv."""
+        text = "lab,tries,number,clk_1,clk_2,ena_1,ena_2,aclr_1,aclr_2,sclr,sload\n"
+        for lab, tries, number, route in self.expected.tries:
+            fields = [lab, tries, "" if number is None else number]
+            fields += ["" if b == F else b for b in route]
+            text += ",".join(str(field) for field in fields) + "\n"
+        return text
+
 
 # ---------------------------------------------------------------- the samples
 
@@ -1284,6 +1332,51 @@ def board_samples():
            settings(SLOAD, SCLR, ACLR, ACLR, ENA, ENA, CLK, CLK))
 
 
+def tries_samples():
+    """The tries of the search for a route."""
+    sample("legal-11-tries", "two clk, one ena, two aclr, sclr: 11 tries, the most of a legal LAB "
+           "on document 01's board; the lowest free entry each time finds no way",
+           exercise(9,
+                    reg(d=net(6), clk=net(0), ena=net(2), aclr=net(3), sclr=net(5), q=net(7)),
+                    reg(d=net(7), clk=net(1), aclr=net(4), q=net(8))),
+           answer(1710, (12, 2, 0), (12, 2, 1)),
+           legal(1710, 19, {76: [0, 2, 3, F, 1, 4, 5, F]}, {76: 11}))
+
+    sample("v65-35-tries", "LAB 70 is refused after 35 tries, the most on document 01's board; "
+           "the LABs below have theirs, those above, one with three clocks, are not searched",
+           exercise(19, comb(a=net(9), o=net(10)),
+                    reg(d=net(10), clk=net(0), aclr=net(3), q=net(11)),
+                    reg(d=net(11), clk=net(1), aclr=net(4), q=net(12)),
+                    reg(d=net(12), clk=net(0), ena=net(5), aclr=net(3), sclr=net(6), sload=net(7),
+                        sdata=net(8), q=net(13)),
+                    reg(d=net(13), clk=net(1), aclr=net(4), q=net(14)),
+                    reg(d=net(14), clk=net(0), aclr=net(3), q=net(15)),
+                    *[reg(d=net(15 + i), clk=net(i), q=net(16 + i)) for i in range(3)]),
+           answer(1711, (3, 0, 0), (4, 2, 0), (4, 2, 1), (6, 2, 0), (6, 2, 1), (7, 2, 0),
+                  (4, 3, 0), (4, 3, 1), (4, 3, 2)),
+           Expected(65, ("answer", 23, 4), lab=70, apprentice=1711,
+                    tries=[(3, 0, 0, EMPTY), (68, 6, 0, [0, 2, F, F, 1, 4, F, F]),
+                           (70, 35, 65, EMPTY), (71, 0, None, EMPTY), (100, 0, None, EMPTY)]))
+
+    # The eight needs of board-eight-needs. Each entry serves clk, ena, aclr and sclr.
+    four = CLK + ENA + ACLR + SCLR
+    sheets = next((ex, an) for name, _, ex, an, _, _ in SAMPLES if name == "board-eight-needs")
+    # 8 + 56 + 336 + 1680 + 6720 + 20160 + 40320, one to seven needs on eight entries.
+    sample("board-69280-tries", "eight needs, and eight entries that serve clk, ena, aclr and "
+           "sclr, none sload: 65 after 69,280 tries", *sheets,
+           Expected(65, ("answer", 11, 4), lab=104, apprentice=1700,
+                    tries=[(104, 69280, 65, EMPTY)]), settings(*[four] * 8))
+    # With entry 0 at the first need 8660 tries, at the second 1237, then 206, 41, 10, 3 and 1, and
+    # none of them leads to a way; and the eight that lead to the route.
+    sample("board-10166-tries", "the same where entry 0 serves sload too: legal, and the search "
+           "gives entry 0 to each need before sload first", *sheets,
+           legal(1700, 19, {104: [1, 2, 3, 4, 5, 6, 7, 0]}, {104: 10166}),
+           settings(four + SLOAD, *[four] * 7))
+    sample("board-8-tries", "the same where entry 7 serves sload, not entry 0: one try a need",
+           *sheets, legal(1700, 19, {104: [0, 1, 2, 3, 4, 5, 6, 7]}, {104: 8}),
+           settings(*[four] * 7, four + SLOAD))
+
+
 # ---------------------------------------------------------------- the class
 
 # Nets of the class exercise.
@@ -1540,6 +1633,7 @@ def all_samples():
         legal_samples()
         settings_samples()
         board_samples()
+        tries_samples()
     return SAMPLES
 
 
@@ -1739,6 +1833,10 @@ def make(top):
         write(folder, "settings.lxt", sheet)
         write(folder, "expected.txt", expected.expected_lines())
         write(folder, "listing.txt", expected.listing())
+        if expected.tries is not None:
+            told = Tries(expected, "document 01" if sheet is None else "settings.lxt")
+            write(folder, "tries.txt", told.lines())
+            write(folder, "tries.csv", told.csv())
 
     make_small_class(os.path.join(top, "samples", "class-small"))
     make_class(os.path.join(top, "samples", "class"))

@@ -70,13 +70,15 @@ static void agree_on(const char *name, int lab, int n, const uint64_t *numbers, 
 int main(int argc, char **argv)
 {
     static uint8_t exercise[EXERCISE_ROOM], answer[ANSWER_ROOM], route[NURIMKKOT_ROUTE_SIZE];
+    static uint32_t tries[NURIMKKOT_TRIES];
     uint64_t numbers[NURIMKKOT_NUMBERS];
     int pair, lab, n, pairs = 0, named = 0;
     for (pair = 1; pair + 2 < argc; pair += 3) {
         size_t exercise_length = read_file(argv[pair + 1], 1, exercise, sizeof exercise);
         size_t answer_length = read_file(argv[pair + 2], 1, answer, sizeof answer);
         settings_length = read_file(argv[pair], 0, settings, sizeof settings);
-        nurimkkot_judge(settings, settings_length, exercise, exercise_length, answer, answer_length, route, sizeof route, numbers);
+        nurimkkot_judge(settings, settings_length, exercise, exercise_length, answer, answer_length, route, sizeof route, tries,
+                        NURIMKKOT_TRIES, numbers);
         if (numbers[NURIMKKOT_NUMBER] != 0 && (numbers[NURIMKKOT_NUMBER] < 60 || numbers[NURIMKKOT_NUMBER] > 65))
             continue;
         n = read_sheets(exercise, exercise_length, answer, answer_length);

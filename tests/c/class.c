@@ -81,15 +81,16 @@ static int answers_on(const struct sheet *sheet, struct sheet *answers)
     return at == sheet->length ? count : -1;
 }
 
-/* The judge's first four numbers for one answer alone, with a route buffer of the right size. */
+/* The judge's first four numbers for one answer alone, with a route buffer and a list of tries of the right size. */
 static struct nurimkkot_row row_of(const struct marking *m, const struct sheet *answer)
 {
     static uint8_t route[NURIMKKOT_ROUTE_SIZE];
+    static uint32_t tries[NURIMKKOT_TRIES];
     uint64_t numbers[NURIMKKOT_NUMBERS];
     uint8_t *own = copy_of(answer->bytes, answer->length);
     struct nurimkkot_row row;
     nurimkkot_judge(m->settings.bytes, m->settings.length, m->exercise.bytes, m->exercise.length, own, answer->length, route, sizeof route,
-                    numbers);
+                    tries, NURIMKKOT_TRIES, numbers);
     row.number = (uint32_t)numbers[NURIMKKOT_NUMBER];
     row.cell = (uint32_t)numbers[NURIMKKOT_CELL];
     row.lab = (uint32_t)numbers[NURIMKKOT_LAB];
@@ -664,7 +665,7 @@ static int samples(int count, char **paths)
     return folders;
 }
 
-/* Every number was returned, and every verdict but 1 stood in some row, and no other number. */
+/* Every number was returned, and every verdict but 1 and 3 stood in some row, and no other number. */
 static void every_number(void)
 {
     static const uint8_t ends[][2] = {{0, 0}, {10, 16}, {20, 26}, {30, 35}, {40, 44}, {50, 51}, {60, 65}, {70, 75}};

@@ -39,36 +39,45 @@ static const uint8_t *at_an_address(const uint8_t *sheet)
     return sheet ? sheet : (const uint8_t *)somewhere;
 }
 
-/* The judge with sheets and route of which some are NULL, beside the same call with an address for each. The settings sheet is that of
- * document 01's board, or NULL. */
+/* The judge with sheets, route and tries of which some are NULL, beside the same call with an address for each. The settings sheet is that
+ * of document 01's board, or NULL. */
 static uint64_t judge_by(int with_settings, const uint8_t *exercise, size_t exercise_length, const uint8_t *answer, size_t answer_length,
-                         int with_route)
+                         int with_route, int with_tries)
 {
     static uint8_t room[NURIMKKOT_ROUTE_SIZE], same[NURIMKKOT_ROUTE_SIZE];
+    static uint32_t tries[NURIMKKOT_TRIES], same_tries[NURIMKKOT_TRIES];
     uint64_t numbers[NURIMKKOT_NUMBERS + 2], others[NURIMKKOT_NUMBERS];
     const uint8_t *settings = with_settings ? HOUSE : NULL;
     size_t settings_length = with_settings ? sizeof HOUSE : 0, route_length = with_route ? sizeof room : 0;
+    size_t tries_count = with_tries ? NURIMKKOT_TRIES : 0;
     memset(numbers, 0x5a, sizeof numbers);
     memset(room, 0xa5, sizeof room);
     memset(same, 0xa5, sizeof same);
+    memset(tries, 0xa5, sizeof tries);
+    memset(same_tries, 0xa5, sizeof same_tries);
     inside = 1;
     nurimkkot_judge(settings, settings_length, exercise, exercise_length, answer, answer_length, with_route ? room : NULL, route_length,
-                    numbers + 1);
+                    with_tries ? tries : NULL, tries_count, numbers + 1);
     inside = 0;
     nurimkkot_judge(at_an_address(settings), settings_length, at_an_address(exercise), exercise_length, at_an_address(answer), answer_length,
-                    same, route_length, others);
+                    same, route_length, same_tries, tries_count, others);
     expect(memcmp(numbers + 1, others, sizeof others) == 0, "the same numbers as with an address", (long)numbers[1]);
     expect(memcmp(room, same, sizeof same) == 0, "the same route as with an address", (long)numbers[1]);
+    expect(memcmp(tries, same_tries, sizeof tries) == 0, "the same tries as with an address", (long)numbers[1]);
     expect(numbers[0] == 0x5a5a5a5a5a5a5a5a && numbers[NURIMKKOT_NUMBERS + 1] == 0x5a5a5a5a5a5a5a5a, "guards around the numbers", 0);
     return numbers[1 + NURIMKKOT_NUMBER];
 }
 
-/* The same on document 01's board; without a settings sheet 70 comes after 1 and before all others. */
+/* The same on document 01's board. No route gives 1, then no tries 3, then no settings sheet 70, before all others. */
 static uint64_t judge(const uint8_t *exercise, size_t exercise_length, const uint8_t *answer, size_t answer_length, int with_route)
 {
-    uint64_t number = judge_by(0, exercise, exercise_length, answer, answer_length, with_route);
-    expect(number == (with_route ? 70 : 1), "no settings sheet", (long)number);
-    return judge_by(1, exercise, exercise_length, answer, answer_length, with_route);
+    uint64_t number;
+    int with;
+    for (with = 0; with < 3; with++) {
+        number = judge_by(with & 1, exercise, exercise_length, answer, answer_length, with_route, with >> 1);
+        expect(number == (!with_route ? 1 : with < 2 ? 3 : 70), "no tries or no settings sheet", (long)number);
+    }
+    return judge_by(1, exercise, exercise_length, answer, answer_length, with_route, 1);
 }
 
 /* A class with sheets and rows of which some are NULL, beside the same call with an address for each. With rows there are three. */
@@ -334,6 +343,7 @@ int main(int argc, char **argv)
     writers();
     expect(calls > 0, "memcpy and memset were watched", calls);
     if (failures == 0)
-        printf("C: NULL with length 0 is an empty sheet, log, route, list, buffer or run of rows, beside %d pairs of sheets\n", pairs);
+        printf("C: NULL with length 0 is an empty sheet, log, route, list, buffer or run of rows or of tries, beside %d pairs of sheets\n",
+               pairs);
     return failures != 0;
 }

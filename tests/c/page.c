@@ -1,4 +1,4 @@
-/* Runs the functions that docs/TABLET.md shows for the writers and for a class sheet, which tests/c/run copies to page.h. */
+/* Runs the functions that docs/TABLET.md shows for the writers, for a class sheet and for tries, which tests/c/run copies to page.h. */
 #include "sheets.h"
 #include "classes.h"
 #include "page.h"
@@ -58,9 +58,28 @@ static void added(const char *what, size_t count, size_t length, size_t room, si
     free(wanted);
 }
 
+/* The LAB with the most tries: of the worked listing, of a list with the same number twice, and of one with 0 everywhere. */
+static void most(void)
+{
+    static uint8_t route[NURIMKKOT_ROUTE_SIZE];
+    static uint32_t tries[NURIMKKOT_TRIES];
+    uint64_t numbers[NURIMKKOT_NUMBERS];
+    size_t i;
+    expect(most_tried(tries) == 0, "no tries", 0);
+    nurimkkot_judge(HOUSE, sizeof HOUSE, EXERCISE, sizeof EXERCISE, ANSWER, sizeof ANSWER, route, sizeof route, tries, NURIMKKOT_TRIES,
+                    numbers);
+    expect(most_tried(tries) == 34 && tries[34] == 2, "tries of the worked listing", (long)tries[34]);
+    for (i = 0; i < NURIMKKOT_TRIES; i++)
+        tries[i] = i == 3 ? 109599 : i == 700 || i == 1023 ? 109600 : 1;
+    expect(most_tried(tries) == 700, "the same number twice", (long)most_tried(tries));
+    tries[700] = 0;
+    expect(most_tried(tries) == 1023, "the last LAB", (long)most_tried(tries));
+}
+
 int main(void)
 {
     size_t full = sizeof EXERCISE;
+    most();
     changed("nothing", full, 2, 0, 0, full, 0);
     changed("datab of cell 1 is VCC", full, 1, 1, 2, full, 0);
     changed("datab of cell 1 is code 3", full, 1, 1, 3, full, 15);

@@ -192,9 +192,10 @@ static void write_guarded(const char *what, const struct input *in, size_t room,
 static void reads_back(const char *what, const struct input *in, const uint8_t *sheet)
 {
     static uint8_t route[NURIMKKOT_ROUTE_SIZE];
+    static uint32_t tries[NURIMKKOT_TRIES];
     uint64_t numbers[NURIMKKOT_NUMBERS];
     struct said said = reads(what, sheet, needed(in));
-    nurimkkot_judge(sheet, needed(in), NULL, 0, NULL, 0, route, sizeof route, numbers);
+    nurimkkot_judge(sheet, needed(in), NULL, 0, NULL, 0, route, sizeof route, tries, NURIMKKOT_TRIES, numbers);
     expect(numbers[NURIMKKOT_NUMBER] == 10, "a written sheet passes 70 to 75", (long)numbers[NURIMKKOT_NUMBER]);
     expect(said.number == 0 && said.numbers[NURIMKKOT_SETTINGS_VERSION] == in->version && said.numbers[NURIMKKOT_SETTINGS_BOARD] == in->board
            && said.numbers[NURIMKKOT_SETTINGS_ENTRIES] == in->count && memcmp(said.entries, in->entries, in->count) == 0, what, said.number);

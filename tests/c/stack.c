@@ -1,7 +1,8 @@
 /* Measures the stack that a call of each function uses and fails where that is not less than the header says. A call runs in a thread
  * whose stack is painted first; the paint that is gone tells what the call used. The sheets have 512 cells, the class 32 answers, the log
  * 1,024 entries, the LABs and the list 32 cells and eight needs, the most there are, on eight entries, as many as a board may have, so that
- * the search goes as deep as it can. Built without sanitizers, whose frames would be measured too. */
+ * the search goes as deep as it can; where no way is found it makes 69,280 tries. Built without sanitizers, whose frames would be measured
+ * too. */
 #define _XOPEN_SOURCE 600
 #include "logs.h"
 
@@ -15,6 +16,8 @@
 
 #define CELLS 512
 #define LIST 32
+/* The lowest LAB of the answer; each of the next ones has as many cells. */
+#define FIRST_LAB 992
 
 /* The header's figures: each function uses less. */
 #define JUDGE_LIMIT (48 * KIB)
@@ -27,6 +30,8 @@
 
 static uint8_t exercise[9 + 24 * CELLS], answer[11 + 4 * CELLS], route[NURIMKKOT_ROUTE_SIZE], bytes[8], said;
 static uint64_t numbers[NURIMKKOT_NUMBERS];
+static uint32_t tries[NURIMKKOT_TRIES];
+static size_t tries_count = NURIMKKOT_TRIES;
 static uint8_t class_sheet[7 + NURIMKKOT_MOST_ANSWERS * (2 + sizeof answer)];
 static struct nurimkkot_row rows[NURIMKKOT_MOST_ANSWERS];
 static size_t lent, filled;
@@ -45,7 +50,8 @@ static uint16_t board[NURIMKKOT_SETTINGS_NUMBERS];
 
 static void judge(void)
 {
-    nurimkkot_judge(settings, sizeof settings, exercise, sizeof exercise, answer, sizeof answer, route, sizeof route, numbers);
+    nurimkkot_judge(settings, sizeof settings, exercise, sizeof exercise, answer, sizeof answer, route, sizeof route, tries, tries_count,
+                    numbers);
 }
 
 static void mark_class(void)
@@ -199,7 +205,7 @@ static void fill(uint8_t roles)
             record[3 + 2 * j] = (uint8_t)(cell.signals[j] / 256);
         }
         place[0] = (uint8_t)(i / LIST);
-        place[1] = 31;
+        place[1] = FIRST_LAB / 32;
         place[2] = (uint8_t)(i % 16);
         place[3] = 0;
         for (j = 0; j < 3; j++)
@@ -221,6 +227,24 @@ static void fill_class(void)
         for (j = 0; j < sizeof answer; j++)
             *to++ = answer[j];
     }
+}
+
+/* The judge on the sheets of fill(): a way of eight needs found at once in every LAB, or none after all others were tried in the first LAB;
+ * then with a number too few in the list of tries. Gives the larger of `before` and what they used. */
+static size_t judgements(int served, size_t before)
+{
+    size_t used, lab;
+    used = less_than(JUDGE_LIMIT, "stack of nurimkkot_judge", judge, before);
+    expect(numbers[NURIMKKOT_NUMBER] == (served ? 0 : 65), "verdict of the sheets", (long)numbers[NURIMKKOT_NUMBER]);
+    for (lab = 0; lab < NURIMKKOT_TRIES; lab++) {
+        uint32_t searched = served ? 8 : lab == FIRST_LAB ? 69280 : 0;
+        expect(tries[lab] == (lab >= FIRST_LAB && lab < FIRST_LAB + CELLS / LIST ? searched : 0), "tries of a LAB", (long)lab);
+    }
+    tries_count--;
+    used = less_than(JUDGE_LIMIT, "stack of nurimkkot_judge", judge, used);
+    expect(numbers[NURIMKKOT_NUMBER] == 3, "a list of tries with a number too few", (long)numbers[NURIMKKOT_NUMBER]);
+    tries_count++;
+    return used;
 }
 
 /* A class of as many answers as there may be, every row with this verdict; then one with a row too few, and one with a byte of its mark
@@ -342,8 +366,7 @@ int main(void)
         fill(served ? 31 : 31 - NURIMKKOT_SLOAD);
         checks = less_than(CHECK_LIMIT, "stack of nurimkkot_check_lab", check_lab, checks);
         expect(said == expected, "number of the list", said);
-        judges = less_than(JUDGE_LIMIT, "stack of nurimkkot_judge", judge, judges);
-        expect(numbers[NURIMKKOT_NUMBER] == expected, "verdict of the sheets", (long)numbers[NURIMKKOT_NUMBER]);
+        judges = judgements(served, judges);
         marks = classes(expected, marks);
     }
     expect(checks > MARGIN && judges > MARGIN && marks > MARGIN, "the measuring itself", (long)judges);

@@ -199,8 +199,10 @@ static void write_guarded(const char *what, const struct input *in, size_t room,
 static uint64_t verdict(const uint8_t *exercise, size_t exercise_length, const uint8_t *answer, size_t answer_length)
 {
     static uint8_t route[NURIMKKOT_ROUTE_SIZE];
+    static uint32_t tries[NURIMKKOT_TRIES];
     uint64_t numbers[NURIMKKOT_NUMBERS];
-    nurimkkot_judge(HOUSE, sizeof HOUSE, exercise, exercise_length, answer, answer_length, route, sizeof route, numbers);
+    nurimkkot_judge(HOUSE, sizeof HOUSE, exercise, exercise_length, answer, answer_length, route, sizeof route, tries, NURIMKKOT_TRIES,
+                    numbers);
     return numbers[NURIMKKOT_NUMBER];
 }
 

@@ -5,9 +5,9 @@ import re
 import class_sheets
 import shared
 
-# Numbers of docs/VERDICTS.md that no row can have: of a wrong route buffer, a writer's buffer, the check of one LAB's list, the call of a class, and
-# a log.
-NOT_IN_A_ROW = {1, 2, 18, 76, 77, *range(80, 88)}
+# Numbers of docs/VERDICTS.md that no row can have: of a wrong route buffer or list of tries, a writer's buffer, the check of one LAB's list, the
+# call of a class, and a log.
+NOT_IN_A_ROW = {1, 2, 3, 18, 76, 77, *range(80, 88)}
 
 
 def words(place):

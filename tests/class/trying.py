@@ -1,5 +1,5 @@
 """What all tests of tools/class_sheets.py use: the library, a folder to try things in, and ways to call the script. The tests of
-tools/tablet_log.py try theirs in such a place too."""
+tools/tablet_log.py and tools/tries.py try theirs in such a place too."""
 
 import os
 import re

@@ -1,22 +1,26 @@
 //! Time per judgement of the proved judge and of the Rust judge on the same
 //! sheets, also where the search for a way is long, how it grows with the number of
 //! cells, how the count of nets into a LAB grows with the number of reads, and what
-//! the least work takes in the same run; then the list check, the readers and the
-//! writers beside plain ones, a class beside as many single calls, and the minutes of
-//! a log beside a plain program and a fast one.
+//! the least work takes in the same run; then the tries of long searches beside a plain
+//! search, the list check, the readers and the writers beside plain ones, a class beside
+//! as many single calls, and the minutes of a log beside a plain program and a fast one.
 
 mod class;
 mod generate;
 mod judge;
+mod lent;
 mod minutes;
 mod plain;
 mod proved;
 mod settings;
 mod sweep;
+mod tries;
+mod try_forms;
 mod writer;
 
 use class::{Row, MOST};
 use generate::*;
+use lent::Lent;
 use minutes::{Credit, Entry, APPRENTICES, ENTRIES, WEEK};
 use plain::{CellRecord, Settings, Step};
 use settings::HOUSE;
@@ -323,16 +327,20 @@ fn bounds(rng: &mut Rng, growth: &[(Outcome, &str, Vec<(f64, f64)>)]) {
         let word = |w: &[u8]| u64::from_le_bytes(w.try_into().unwrap());
         b.chunks_exact(8).fold(0, |x, w| x ^ word(w))
     };
-    let mut route = vec![0u8; judge::ROUTE];
+    let mut lent = Lent::new();
     let read = time(&inputs, |(e, a)| {
         black_box(words(e) ^ words(a));
     });
-    let write = time(&inputs, |_| black_box(&mut route[..]).fill(black_box(255)));
+    let write = time(&inputs, |_| {
+        let (route, tries) = black_box(lent.parts());
+        route.fill(black_box(255));
+        tries.fill(black_box(0));
+    });
     let scan = time(&keys, |k| assert_eq!(first_equal(k), 511));
     println!();
     println!("least work at 512 cells, in the same run");
     println!("{:<34}{:>9.3} us", "reading both sheets once", read);
-    println!("{:<34}{:>9.3} us", "writing 8,192 bytes", write);
+    println!("{:<34}{:>9.3} us", "writing route and tries", write);
     println!("{:<34}{:>9.3} us", "pairwise scan of 512 keys", scan);
     for (outcome, spread, series) in growth {
         let (what, least) = match outcome {
@@ -381,14 +389,14 @@ fn row(what: &str, size: usize, proved: f64, plain: f64) {
 
 /// Microseconds per judgement by the proved and by the Rust judge, in turn.
 fn judges(settings: &[u8], inputs: &[(Vec<u8>, Vec<u8>)]) -> (f64, f64) {
-    let mut route = vec![0u8; judge::ROUTE];
-    let mut other_route = route.clone();
+    let mut lent = [Lent::new(), Lent::new()];
+    let [left, right] = &mut lent;
     let mut proved = |(e, a): &(Vec<u8>, Vec<u8>)| {
-        black_box(proved::judge(settings, e, a, &mut route));
+        black_box(proved::judge(settings, e, a, left.parts()));
     };
     let n = rounds(inputs, &mut proved);
     let mut rust = |(e, a): &(Vec<u8>, Vec<u8>)| {
-        black_box(judge::judge(settings, e, a, &mut other_route));
+        black_box(judge::judge(settings, e, a, right.parts()));
     };
     let m = rounds(inputs, &mut rust);
     let (mut left, mut right) = (Vec::new(), Vec::new());
@@ -435,17 +443,18 @@ fn search(rng: &mut Rng) {
             entries: entries.to_vec(),
         });
         let mut inputs = Vec::new();
-        let mut route = vec![0u8; judge::ROUTE];
+        let mut lent = Lent::new();
         for _ in 0..VARIANTS {
-            let s = eight_needs(rng);
+            let s = with_needs(rng, &[EIGHT_NEEDS]);
             let lab = s.cells[0].lab();
             let (e, a) = (s.exercise(), s.answer());
-            let v = proved::numbers(&judge::judge(&settings, &e, &a, &mut route));
+            let v = proved::numbers(&judge::judge(&settings, &e, &a, lent.parts()));
+            let bytes = &lent.route()[8 * lab..8 * lab + 8];
             match way {
-                Some(bytes) => assert_eq!((v[0], &route[8 * lab..8 * lab + 8]), (0, &bytes[..])),
+                Some(wanted) => assert_eq!((v[0], bytes), (0, &wanted[..])),
                 None => assert_eq!((v[0], v[2]), (65, lab as u64)),
             }
-            assert_eq!(proved::judge(&settings, &e, &a, &mut route), v);
+            assert_eq!(proved::judge(&settings, &e, &a, lent.parts()), v);
             inputs.push((e, a));
         }
         let number = if way.is_some() { 0 } else { 65 };
@@ -454,21 +463,112 @@ fn search(rng: &mut Rng) {
 }
 
 /// Two clk, two ena, two aclr, sclr and sload.
-fn eight_needs(rng: &mut Rng) -> Sheets {
-    let mut nets: Vec<u16> = (0..11).map(net).collect();
+const EIGHT_NEEDS: [usize; 5] = [2, 2, 2, 1, 1];
+
+/// Needs that take over 1,000 tries each on the board of LATE_WAY.
+const LATE_NEEDS: [[usize; 5]; 8] = [
+    EIGHT_NEEDS,
+    [2, 2, 2, 0, 1],
+    [2, 2, 1, 1, 1],
+    [2, 1, 2, 1, 1],
+    [1, 2, 2, 1, 1],
+    [2, 2, 1, 0, 1],
+    [2, 1, 2, 0, 1],
+    [1, 2, 2, 0, 1],
+];
+
+/// A LAB of two registers for each of these numbers of needs, by role.
+fn with_needs(rng: &mut Rng, list: &[[usize; 5]]) -> Sheets {
+    let mut nets: Vec<u16> = (0..9 + 2 * list.len() as u16).map(net).collect();
     rng.shuffle(&mut nets);
-    let lab = rng.below(1024);
-    let mut cells = vec![Cell::new(REGISTER, lab, 0), Cell::new(REGISTER, lab, 1)];
-    for (j, c) in cells.iter_mut().enumerate() {
-        (c.s[CLK], c.s[ENA], c.s[ACLR]) = (nets[j], nets[2 + j], nets[4 + j]);
-        c.s[REGOUT] = nets[6 + j];
+    let mut labs: Vec<usize> = (0..1024).collect();
+    rng.shuffle(&mut labs);
+    let mut cells = Vec::new();
+    for (k, counts) in list.iter().enumerate() {
+        for j in 0..2 {
+            let mut c = Cell::new(REGISTER, labs[k], j);
+            // The second signal where there are two.
+            for (role, &n) in counts.iter().enumerate().filter(|(_, &n)| n > 0) {
+                let first = [0, 2, 4, 6, 7][role];
+                c.s[CLK + role] = nets[first + j * (n - 1)];
+            }
+            (c.s[SDATA], c.s[REGOUT]) = (nets[8], nets[9 + 2 * k + j]);
+            cells.push(c);
+        }
     }
-    let c = &mut cells[0].s;
-    (c[SCLR], c[SLOAD], c[SDATA]) = (nets[8], nets[9], nets[10]);
     Sheets {
-        nets: 11,
+        nets: nets.len() as u16,
         cells,
         apprentice: 1 + rng.below(1000) as u32,
+    }
+}
+
+// As many different sheets in turn where a judgement takes long.
+const SEARCHES: usize = 8;
+
+/// Judgements that take many tries beside a plain search of the same needs.
+fn searches(rng: &mut Rng) {
+    println!();
+    println!("tries: judgements beside a plain search of the same needs, median of {RUNS} runs");
+    println!(
+        "{:<21}{:>4}{:>6}{:>9}{:>13}{:>13}{:>12}{:>9}{:>8}",
+        "outcome",
+        "no.",
+        "LABs",
+        "tries",
+        "proved us",
+        "search us",
+        "ns per try",
+        "search",
+        "ratio"
+    );
+    let late = LATE_NEEDS.repeat(2);
+    for (name, number, entries, list) in [
+        ("most tries, refused", 65, NO_WAY, &[EIGHT_NEEDS][..]),
+        ("late answer, legal", 0, LATE_WAY, &[EIGHT_NEEDS]),
+        ("late answers, legal", 0, LATE_WAY, &late),
+    ] {
+        let settings = settings::sheet(&Settings {
+            version: 1,
+            board: 0,
+            entries: entries.to_vec(),
+        });
+        let needs = |counts: &[usize; 5]| {
+            let roles = (0..5).flat_map(|role| std::iter::repeat_n(role, counts[role]));
+            try_forms::serving(roles, &entries)
+        };
+        let needs: Vec<Vec<u8>> = list.iter().map(needs).collect();
+        let tries: u32 = needs.iter().map(|n| try_forms::searched(n, 8).0).sum();
+        let mut lent = Lent::new();
+        let mut inputs = Vec::new();
+        for _ in 0..SEARCHES {
+            let s = with_needs(rng, list);
+            let (e, a) = (s.exercise(), s.answer());
+            assert_eq!(proved::judge(&settings, &e, &a, lent.parts())[0], number);
+            assert_eq!(lent.tries().iter().sum::<u32>(), tries);
+            inputs.push((e, a, needs.clone()));
+        }
+        let (proved, search) = both(
+            &inputs,
+            |(e, a, _)| {
+                black_box(proved::judge(&settings, e, a, lent.parts()));
+            },
+            |(_, _, list)| {
+                for needs in list {
+                    let (mut way, mut tries) = ([0; 8], 0);
+                    black_box(try_forms::search(needs, 8, 0, &mut way, &mut tries));
+                    black_box((way, tries));
+                }
+            },
+        );
+        let each = |us: f64| us * 1000.0 / tries as f64;
+        println!(
+            "{name:<21}{number:>4}{:>6}{tries:>9}{proved:>13.3}{search:>13.3}{:>12.2}{:>9.2}{:>8.2}",
+            list.len(),
+            each(proved),
+            each(search),
+            proved / search
+        );
     }
 }
 
@@ -554,13 +654,13 @@ fn nets(rng: &mut Rng) {
         let mut none = (0.0, 0.0);
         for reads in READS {
             let mut inputs = Vec::new();
-            let mut route = vec![0u8; judge::ROUTE];
+            let mut lent = Lent::new();
             for _ in 0..VARIANTS {
                 let s = connected(rng, labs, pairs, reads);
                 let (e, a) = (s.exercise(), s.answer());
-                let v = proved::numbers(&judge::judge(&HOUSE, &e, &a, &mut route));
+                let v = proved::numbers(&judge::judge(&HOUSE, &e, &a, lent.parts()));
                 assert_eq!((v[0], s.cells.len()), (0, 2 * labs * pairs));
-                assert_eq!(proved::judge(&HOUSE, &e, &a, &mut route), v);
+                assert_eq!(proved::judge(&HOUSE, &e, &a, lent.parts()), v);
                 inputs.push((e, a));
             }
             let each = judges(&HOUSE, &inputs);
@@ -675,19 +775,19 @@ fn in_turn<T>(inputs: &[T], mut works: [&mut dyn FnMut(&T); 3]) -> [f64; 3] {
 /// turn.
 fn mark_times(classes: &[Class]) -> [f64; 3] {
     let mut rows = [NO_ROW; MOST];
-    let mut route = vec![0u8; judge::ROUTE];
-    let mut other_route = route.clone();
+    let mut lent = [Lent::new(), Lent::new()];
+    let [left, right] = &mut lent;
     let mut whole = |c: &Class| {
         black_box(proved::mark_class(&HOUSE, &c.exercise, &c.sheet, &mut rows));
     };
     let mut singles = |c: &Class| {
         for a in &c.answers {
-            black_box(proved::judge(&HOUSE, &c.exercise, a, &mut route));
+            black_box(proved::judge(&HOUSE, &c.exercise, a, left.parts()));
         }
     };
     let mut rust = |c: &Class| {
         for a in &c.answers {
-            black_box(judge::judge(&HOUSE, &c.exercise, a, &mut other_route));
+            black_box(judge::judge(&HOUSE, &c.exercise, a, right.parts()));
         }
     };
     in_turn(classes, [&mut whole, &mut singles, &mut rust])
@@ -696,12 +796,12 @@ fn mark_times(classes: &[Class]) -> [f64; 3] {
 /// All three say the same of the class.
 fn assert_rows(c: &Class) {
     let mut rows = [NO_ROW; MOST];
-    let mut route = vec![0u8; judge::ROUTE];
+    let mut lent = Lent::new();
     let told = proved::mark_class(&HOUSE, &c.exercise, &c.sheet, &mut rows);
     assert_eq!(told, (0, c.answers.len()));
     for (a, row) in c.answers.iter().zip(&rows) {
-        assert_eq!(*row, proved::row(&HOUSE, &c.exercise, a, &mut route));
-        assert_eq!(*row, class::row_of(&HOUSE, &c.exercise, a, &mut route));
+        assert_eq!(*row, proved::row(&HOUSE, &c.exercise, a, lent.parts()));
+        assert_eq!(*row, class::row_of(&HOUSE, &c.exercise, a, lent.parts()));
     }
 }
 
@@ -866,7 +966,7 @@ fn logs(rng: &mut Rng) {
 
 fn main() {
     let mut rng = Rng::new(1);
-    let mut route = vec![0u8; judge::ROUTE];
+    let mut lent = Lent::new();
     let mut growth = Vec::new();
     println!("time per judgement, median of up to {RUNS} runs over {VARIANTS} pairs of sheets");
     println!(
@@ -893,7 +993,7 @@ fn main() {
                     l.dedup();
                     labs = l.len();
                     let (e, a) = (s.exercise(), s.answer());
-                    let v = proved::numbers(&judge::judge(&HOUSE, &e, &a, &mut route));
+                    let v = proved::numbers(&judge::judge(&HOUSE, &e, &a, lent.parts()));
                     let highest = if v[0] >= 60 {
                         *l.last().unwrap() as u32
                     } else {
@@ -904,7 +1004,7 @@ fn main() {
                     if outcome == Outcome::Shared {
                         assert_eq!(v[1], size as u64 - 1);
                     }
-                    assert_eq!(proved::judge(&HOUSE, &e, &a, &mut route), v);
+                    assert_eq!(proved::judge(&HOUSE, &e, &a, lent.parts()), v);
                     inputs.push((e, a));
                 }
                 let each = judges(&HOUSE, &inputs);
@@ -939,6 +1039,7 @@ fn main() {
             );
         }
     }
+    searches(&mut rng);
     nets(&mut rng);
     bounds(&mut rng, &growth);
     forms(&mut rng);

@@ -75,7 +75,7 @@ const REFUSED: [(u64, &[u8]); 27] = [
 ];
 
 /// A version 2 sheet.
-fn board(number: u16, entries: &[u8]) -> Vec<u8> {
+pub fn board(number: u16, entries: &[u8]) -> Vec<u8> {
     settings::sheet(&Settings {
         version: 2,
         board: number,
@@ -85,7 +85,7 @@ fn board(number: u16, entries: &[u8]) -> Vec<u8> {
 
 /// One or two registers in one LAB with so many distinct signals of each role; a
 /// clock that needs no entry is VCC.
-fn needs(lab: usize, counts: &str) -> Sheets {
+pub fn needs(lab: usize, counts: &str) -> Sheets {
     let count = |role: usize| counts.as_bytes()[role] - b'0';
     let register = |j: u8| {
         let n = j as u16;

@@ -3,6 +3,7 @@
 #![allow(dead_code)]
 
 use crate::judge;
+use crate::lent::{Lent, Parts};
 use crate::plain::word;
 
 /// A class sheet has at most so many answers.
@@ -103,16 +104,16 @@ pub fn mark(settings: &[u8], exercise: &[u8], sheet: &[u8], rows: &mut [Row]) ->
     if rows.len() < list.len() {
         return (77, 0);
     }
-    let mut route = [0; judge::ROUTE];
+    let mut lent = Lent::new();
     for (row, answer) in rows.iter_mut().zip(&list) {
-        *row = row_of(settings, exercise, answer, &mut route);
+        *row = row_of(settings, exercise, answer, lent.parts());
     }
     (0, list.len())
 }
 
-/// What a single call says, with a route buffer of the right size.
-pub fn row_of(settings: &[u8], exercise: &[u8], answer: &[u8], route: &mut [u8]) -> Row {
-    let v = judge::judge(settings, exercise, answer, route);
+/// What a single call says, with a route buffer and a list of tries of the right sizes.
+pub fn row_of(settings: &[u8], exercise: &[u8], answer: &[u8], lent: Parts) -> Row {
+    let v = judge::judge(settings, exercise, answer, lent);
     Row {
         number: v.number as u32,
         cell: v.cell as u32,

@@ -1,10 +1,11 @@
 //! Judges seeded pairs of sheets, each on a board, by the proved judge and by the
 //! Rust judge, reads them by the readers, checks the list of every LAB, writes them
-//! and others by the writers, marks classes, credits the minutes of logs, and stops at
-//! the first difference.
+//! and others by the writers, marks classes, credits the minutes of logs, counts the
+//! tries of the search, and stops at the first difference.
 //! Arguments: number of pairs (200000), seed (1).
 
 mod boards;
+mod both;
 mod class;
 mod class_examples;
 mod class_sheets;
@@ -13,6 +14,7 @@ mod faults;
 mod forms;
 mod generate;
 mod judge;
+mod lent;
 mod log_cases;
 mod log_examples;
 mod logs;
@@ -23,20 +25,29 @@ mod plain;
 mod proved;
 mod settings;
 mod sync;
+mod tries;
+mod try_cases;
+mod try_examples;
+mod try_forms;
+mod try_sheets;
+mod trying;
 mod writer;
 mod writes;
 
+use both::{describe, Both, Call};
 use generate::*;
+use lent::{Lent, GUARD};
 use settings::HOUSE;
 use std::collections::HashSet;
 use std::fmt::Write;
 use std::process::exit;
 
-const GUARD: usize = 64;
 /// One pair of so many gets a class.
 const PAIRS_TO_A_CLASS: usize = 2;
 /// And one of so many comes with a log.
 const PAIRS_TO_A_LOG: usize = 2;
+/// And one of so many with sheets for the search, a table, and a list of another length.
+const PAIRS_TO_A_SEARCH: usize = 4;
 const NO_NEEDS: [u8; 8] = [255; 8];
 
 fn hex(title: &str, b: &[u8]) -> String {
@@ -49,112 +60,6 @@ fn hex(title: &str, b: &[u8]) -> String {
         t.push('\n');
     }
     t
-}
-
-fn describe(n: &[u64; 7]) -> String {
-    format!(
-        "number {} cell {} lab {} apprentice {} sheet {} start {} size {}",
-        n[0], n[1], n[2], n[3], n[4], n[5], n[6]
-    )
-}
-
-/// Both judges on the same sheets, each with its own copy of the route buffer,
-/// guarded at both ends.
-struct Both {
-    before: Vec<u8>,
-    left: Vec<u8>,
-    right: Vec<u8>,
-}
-
-impl Both {
-    fn new() -> Both {
-        Both {
-            before: Vec::new(),
-            left: Vec::new(),
-            right: Vec::new(),
-        }
-    }
-
-    /// The agreed answer, or an account of the difference.
-    fn run(
-        &mut self,
-        settings: &[u8],
-        exercise: &[u8],
-        answer: &[u8],
-        pattern: &[u8],
-        route: usize,
-    ) -> Result<[u64; 7], String> {
-        let whole = &pattern[..route + 2 * GUARD];
-        for b in [&mut self.before, &mut self.left, &mut self.right] {
-            b.clear();
-            b.extend_from_slice(whole);
-        }
-        let lent = GUARD..GUARD + route;
-        let left = &mut self.left[lent.clone()];
-        let a = proved::judge(settings, exercise, answer, left);
-        let right = &mut self.right[lent];
-        let b = proved::numbers(&judge::judge(settings, exercise, answer, right));
-        let mut wrong = String::new();
-        if a != b {
-            wrong.push_str("the answers differ\n");
-        }
-        if self.left != self.right {
-            let i = self
-                .left
-                .iter()
-                .zip(&self.right)
-                .position(|(x, y)| x != y)
-                .unwrap_or(0);
-            let at = i as i64 - GUARD as i64;
-            let _ = writeln!(
-                wrong,
-                "route byte {at} (lab {}) differs: proved {}, Rust {}, before {}",
-                at.div_euclid(8),
-                self.left[i],
-                self.right[i],
-                self.before[i]
-            );
-        }
-        for (who, n, buffer) in [("proved", &a, &self.left), ("Rust", &b, &self.right)] {
-            if n[0] != 0 && *buffer != self.before {
-                let _ = writeln!(wrong, "{who}: a refusal changed the route buffer");
-            }
-        }
-        if wrong.is_empty() {
-            return Ok(a);
-        }
-        let _ = writeln!(wrong, "proved: {}\nRust:   {}", describe(&a), describe(&b));
-        wrong.push_str(&hex("settings", settings));
-        wrong.push_str(&hex("exercise", exercise));
-        wrong.push_str(&hex("answer", answer));
-        let _ = writeln!(wrong, "route buffer of {route} bytes");
-        Err(wrong)
-    }
-
-    /// The proved judge on the pair that was just run, under the number of another
-    /// board with the same entries: nothing may change.
-    fn renumbered(
-        &mut self,
-        settings: &[u8],
-        case: &Case,
-        agreed: &[u64; 7],
-    ) -> Result<(), String> {
-        self.right.copy_from_slice(&self.before);
-        let lent = &mut self.right[GUARD..GUARD + case.route];
-        let n = proved::judge(settings, &case.exercise, &case.answer, lent);
-        if n == *agreed && self.right == self.left {
-            return Ok(());
-        }
-        let (was, is) = (describe(agreed), describe(&n));
-        let sheets = hex("settings", &case.settings) + &hex("renumbered", settings);
-        Err(format!(
-            "another board number changed the answer\nbefore: {was}\nafter:  {is}\n{sheets}"
-        ))
-    }
-
-    fn route(&self) -> &[u8] {
-        &self.left[GUARD..self.left.len() - GUARD]
-    }
 }
 
 /// What a settled example has to give.
@@ -480,7 +385,7 @@ fn run_examples(both: &mut Both, rng: &mut Rng, pattern: &[u8]) {
     for x in &all {
         let (e, a) = (x.sheets.exercise(), x.sheets.answer());
         let got = both
-            .run(&x.settings, &e, &a, pattern, judge::ROUTE)
+            .run(&Call::right(&x.settings, &e, &a), pattern)
             .unwrap_or_else(|wrong| {
                 print!("example {}: {wrong}", x.name);
                 exit(1);
@@ -603,6 +508,7 @@ fn compare_boards(
     };
     match read {
         Err(_) if number == 1 => boards.buffer += 1,
+        Err(_) if number == 3 => boards.list += 1,
         Err(told) => {
             forms::same("the judge on the settings", told, refused)?;
             boards.beside += (alone[0] != 0) as u64;
@@ -612,7 +518,7 @@ fn compare_boards(
             boards.note(&board, case.board, number);
             if rng.percent(10) {
                 let sheet = settings::sheet(&settings::renumbered(rng, &board));
-                both.renumbered(&sheet, case, n)?;
+                both.renumbered(&sheet, &Call::of(case), n)?;
                 boards.renumbered += 1;
             }
         }
@@ -713,6 +619,7 @@ fn report_boards(seen: &settings::Counts) -> bool {
         ("judged again under another board number", seen.renumbered),
         ("70 to 75 beside another fault", seen.beside),
         ("1 beside a settings sheet that is none", seen.buffer),
+        ("3 beside a settings sheet that is none", seen.list),
     ] {
         println!("{what}: {n}");
         missing |= n == 0;
@@ -767,7 +674,7 @@ fn report_classes(seen: &marking::Counts) -> bool {
         let all = NUMBERS.iter().map(|&n| n as usize);
         all.filter(wanted).collect()
     };
-    let rows = numbers(|&n| n != 1);
+    let rows = numbers(|&n| !matches!(n, 1 | 3));
     missing |= by_number("  rows, by number", &seen.rows, &rows);
     // What depends on the answer, and what does not.
     let own = numbers(|n| matches!(n, 0 | 20..=26 | 50..=65));
@@ -842,6 +749,38 @@ fn report_refused_logs(seen: &log_cases::Counts) -> bool {
     by_number("  before", &seen.before, &log_cases::LOG_NUMBERS) || missing
 }
 
+/// The same for the tries.
+fn report_tries(seen: &try_cases::Counts) -> bool {
+    let cases = try_cases::CASES.map(|c| c.0);
+    let mut missing = by_name("tries compared", &cases, &seen.cases);
+    missing |= rising("  legal, by entries", &seen.legal);
+    missing |= rising("  65, by entries", &seen.no_way);
+    missing |= rising("  LABs with a way, by needs", &seen.found);
+    let from_1 = ["1", "2", "3", "4", "5", "6", "7", "8"];
+    missing |= by_name("  without a way, by needs", &from_1, &seen.not_found[1..]);
+    missing |= by_name("  made sheets, by version", &["1", "2"], &seen.versions);
+    let rules = ["60", "61", "62", "63", "64"];
+    missing |= by_name("  list stays, tries below", &rules, &seen.stays);
+    let [way, no_way] = seen.rarest_tables();
+    println!(
+        "  least for a number of entries and of needs: {way} tables with a way, {no_way} without"
+    );
+    println!("  tables by all lists of entries: {}", seen.defined);
+    let [way, no_way, table] = seen.most;
+    println!("  most tries: {way} with a way, {no_way} without, {table} of a table");
+    missing |= seen.rarest_tables().contains(&0) || seen.defined == 0;
+    report_other_lengths(seen) || missing
+}
+
+fn report_other_lengths(seen: &try_cases::Counts) -> bool {
+    let lengths = try_cases::LENGTHS.map(|l| l.0);
+    let missing = by_name("3, by numbers lent", &lengths, &seen.lengths);
+    println!("  1 before it: {}", seen.after_1);
+    let others = NUMBERS.iter().filter(|n| !matches!(n, 1 | 3));
+    let others: Vec<usize> = others.map(|&n| n as usize).collect();
+    by_number("  before", &seen.before, &others) || missing || seen.after_1 == 0
+}
+
 fn main() {
     let mut args = std::env::args().skip(1);
     let mut number = |default: u64| match args.next() {
@@ -867,7 +806,7 @@ fn main() {
     let mut places = HashSet::new();
     let mut seen = forms::Counts::new();
     let mut boards = settings::Counts::new();
-    let mut spare = vec![0; judge::ROUTE];
+    let mut spare = Lent::new();
     let mut third = Rng::new(seed ^ 0x5555_5555);
     let mut writes = writes::Writes::new();
     match writes.settled(&mut third) {
@@ -895,6 +834,15 @@ fn main() {
             exit(1);
         }
     }
+    let mut sixth = Rng::new(seed ^ 0xcccc_cccc);
+    let mut trying = trying::Trying::new();
+    match trying.settled(&mut both, &pattern) {
+        Ok(calls) => println!("{calls} settled calls for tries agree"),
+        Err(wrong) => {
+            print!("settled calls for tries: {wrong}");
+            exit(1);
+        }
+    }
     let started = std::time::Instant::now();
     for i in 0..pairs {
         let case = generate::case(&mut rng);
@@ -918,7 +866,7 @@ fn main() {
         };
         let (exercise, answer) = (&case.exercise, &case.answer);
         let n = both
-            .run(&case.settings, exercise, answer, fill, case.route)
+            .run(&Call::of(&case), fill)
             .unwrap_or_else(|wrong| fail(wrong));
         counts[n[0] as usize] += 1;
         let place = if n[0] >= 60 { n[2] } else { n[1] };
@@ -927,7 +875,10 @@ fn main() {
         }
         // What the Rust judge says of the two sheets where it did not come to them.
         let alone = match n[0] {
-            1 | 70..=75 => proved::numbers(&judge::judge(&HOUSE, exercise, answer, &mut spare)),
+            1 | 3 | 70..=75 => {
+                let verdict = judge::judge(&HOUSE, exercise, answer, spare.parts());
+                proved::numbers(&verdict)
+            }
             _ => n,
         };
         let said = [&n, &alone];
@@ -935,7 +886,8 @@ fn main() {
             .and_then(|()| {
                 compare_boards(&mut boards, &mut seen, &mut other, &mut both, &case, said)
             })
-            .and_then(|()| writes.sheets(&mut third, fill, &case, alone[0] as u8));
+            .and_then(|()| writes.sheets(&mut third, fill, &case, alone[0] as u8))
+            .and_then(|()| trying.judged(&Call::of(&case), &n, &both));
         if let Err(wrong) = compared {
             let sheets = hex("settings", &case.settings)
                 + &hex("exercise", exercise)
@@ -952,6 +904,15 @@ fn main() {
         }
         if fifth.below(PAIRS_TO_A_LOG) == 0 {
             if let Err(wrong) = crediting.log(&mut fifth, fill) {
+                fail(wrong);
+            }
+        }
+        if sixth.below(PAIRS_TO_A_SEARCH) == 0 {
+            let compared = trying
+                .lengths(&mut both, &mut sixth, fill, &Call::of(&case), &n)
+                .and_then(|()| trying.sheets(&mut both, &mut sixth, fill))
+                .and_then(|()| trying.table(&mut sixth));
+            if let Err(wrong) = compared {
                 fail(wrong);
             }
         }
@@ -973,6 +934,7 @@ fn main() {
     missing |= report_writes(&writes.counts);
     missing |= report_classes(&marking.counts);
     missing |= report_logs(&crediting.counts);
+    missing |= report_tries(&trying.counts);
     if missing {
         println!("a number did not occur");
         exit(1);

@@ -5,9 +5,9 @@
 use crate::settings;
 
 /// Every verdict number of the judge of two sheets.
-pub const NUMBERS: [u8; 41] = [
-    0, 1, 70, 71, 72, 73, 74, 75, 10, 11, 12, 13, 14, 15, 16, 20, 21, 22, 23, 24, 25, 26, 30, 31,
-    32, 33, 34, 35, 40, 41, 42, 43, 44, 50, 51, 60, 61, 62, 63, 64, 65,
+pub const NUMBERS: [u8; 42] = [
+    0, 1, 3, 70, 71, 72, 73, 74, 75, 10, 11, 12, 13, 14, 15, 16, 20, 21, 22, 23, 24, 25, 26, 30,
+    31, 32, 33, 34, 35, 40, 41, 42, 43, 44, 50, 51, 60, 61, 62, 63, 64, 65,
 ];
 
 pub const COMBINATIONAL: u8 = 1;
@@ -221,7 +221,9 @@ pub struct Case {
     pub board: usize,
     pub exercise: Vec<u8>,
     pub answer: Vec<u8>,
+    /// Bytes and numbers lent.
     pub route: usize,
+    pub tries: usize,
 }
 
 /// The control signals of one LAB. GND at clk and aclr and VCC at ena may also
@@ -255,7 +257,13 @@ impl Control {
 
 /// `n` distinct signals out of the pool's nets in either polarity, with the
 /// constants mixed in.
-fn distinct(rng: &mut Rng, pool: &[u16], n: usize, constants: &[u16], share: usize) -> Vec<u16> {
+pub fn distinct(
+    rng: &mut Rng,
+    pool: &[u16],
+    n: usize,
+    constants: &[u16],
+    share: usize,
+) -> Vec<u16> {
     let mut list: Vec<u16> = Vec::new();
     let mut tries = 0;
     while list.len() < n && tries < 200 {
@@ -603,7 +611,7 @@ impl<'a> Builder<'a> {
     }
 }
 
-fn some_labs(rng: &mut Rng, n: usize) -> Vec<usize> {
+pub fn some_labs(rng: &mut Rng, n: usize) -> Vec<usize> {
     let mut labs: Vec<usize> = match rng.below(4) {
         0 => {
             let from = rng.below(1025 - n.min(1024));
@@ -1327,7 +1335,7 @@ fn aim(rng: &mut Rng, board: &[u8], number: u8) -> (Vec<u8>, Vec<u8>) {
 
 pub fn case(rng: &mut Rng) -> Case {
     let plain = |s: Sheets| (s.exercise(), s.answer());
-    let mut route = 8192;
+    let (mut route, mut tries) = (8192, 1024);
     let (good, mut kind) = settings::board(rng);
     let board = &good.entries[..];
     let mut sheet = settings::sheet(&good);
@@ -1413,8 +1421,11 @@ pub fn case(rng: &mut Rng) -> Case {
             if number == 1 {
                 route = rng.pick(&[0, 1, 8191, 8193, 8184, 8200, 16384]);
             }
-            // A wrong buffer beside another fault.
-            let number = if number == 1 && rng.percent(50) {
+            if number == 3 || number == 1 && rng.percent(20) {
+                tries = rng.pick(&[0, 1, 1023, 1025, 1016, 1032, 2048]);
+            }
+            // A wrong buffer or list beside another fault.
+            let number = if matches!(number, 1 | 3) && rng.percent(50) {
                 rng.pick(&NUMBERS)
             } else {
                 number
@@ -1443,5 +1454,6 @@ pub fn case(rng: &mut Rng) -> Case {
         exercise,
         answer,
         route,
+        tries,
     }
 }

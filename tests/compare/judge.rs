@@ -1,5 +1,8 @@
 //! The judge in plain Rust: linear passes, tables by net, a list of cells per LAB,
-//! all ways of the settings sheet's table in order.
+//! all ways of the settings sheet's table in order, the tries counted by sets.
+
+use crate::lent::Parts;
+use crate::tries;
 
 #[derive(Clone, Copy, Debug, PartialEq, Eq)]
 pub struct Verdict {
@@ -15,6 +18,7 @@ pub struct Verdict {
 
 pub const NONE: u16 = 65535;
 pub const ROUTE: usize = 8192;
+pub const TRIES: usize = 1024;
 const MAX_NETS: usize = 1024;
 const MAX_CELLS: usize = 512;
 const LABS: usize = 1024;
@@ -98,10 +102,11 @@ fn way_case(clk: usize, ena: usize, aclr: usize, sclr: usize, sload: usize) -> u
     (((clk * 3 + ena) * 3 + aclr) * 2 + sclr) * 2 + sload
 }
 
-/// The route bytes of each case, searched when a LAB first asks for it.
+/// The route bytes and the tries of each case, found when a LAB first asks for it.
 struct Ways {
     table: Table,
     bytes: [[u8; 8]; CASES],
+    tries: [u32; CASES],
 }
 
 // In the first byte.
@@ -113,20 +118,21 @@ impl Ways {
         Ways {
             table,
             bytes: [[NOT_ASKED; 8]; CASES],
+            tries: [0; CASES],
         }
     }
 
-    /// Whether the case has a way; then its bytes are there.
+    /// Whether the case has a way; then its bytes are there. Its tries are, either way.
     #[inline(always)]
     fn exists(&mut self, case: usize) -> bool {
         if self.bytes[case][0] == NOT_ASKED {
-            self.bytes[case] = self.search(case);
+            (self.bytes[case], self.tries[case]) = self.search(case);
         }
         self.bytes[case][0] != NO_WAY
     }
 
     #[inline(never)]
-    fn search(&self, case: usize) -> [u8; 8] {
+    fn search(&self, case: usize) -> ([u8; 8], u32) {
         let counts = [
             case / 36,
             case / 12 % 3,
@@ -150,12 +156,12 @@ impl Ways {
         let mut bytes = [255; 8];
         if !earliest_way(&serving[..n], 0, &mut way[..n]) {
             bytes[0] = NO_WAY;
-            return bytes;
+            return (bytes, tries::all(&serving[..n]));
         }
         for k in 0..n {
             bytes[places[k]] = way[k];
         }
-        bytes
+        (bytes, tries::up_to(&serving[..n], &way[..n]))
     }
 }
 
@@ -291,9 +297,12 @@ fn at_answer_end(number: u8, apprentice: u32, answer: &[u8]) -> Verdict {
     }
 }
 
-pub fn judge(settings: &[u8], exercise: &[u8], answer: &[u8], route: &mut [u8]) -> Verdict {
+pub fn judge(settings: &[u8], exercise: &[u8], answer: &[u8], (route, tries): Parts) -> Verdict {
     if route.len() != ROUTE {
         return at_answer_end(1, 0, answer);
+    }
+    if tries.len() != TRIES {
+        return at_answer_end(3, 0, answer);
     }
     let table = match table_of(settings) {
         Ok(table) => table,
@@ -316,7 +325,7 @@ pub fn judge(settings: &[u8], exercise: &[u8], answer: &[u8], route: &mut [u8]) 
     if exercise.len() != 9 + 24 * count {
         return at_exercise_head(14, exercise);
     }
-    judge_cells(table, exercise, nets, count, answer, route)
+    judge_cells(table, exercise, nets, count, answer, (route, tries))
 }
 
 /// Everything from rule 15 on; the exercise's head is sound.
@@ -327,7 +336,7 @@ fn judge_cells(
     nets: usize,
     count: usize,
     answer: &[u8],
-    route: &mut [u8],
+    (route, tries): Parts,
 ) -> Verdict {
     // 15 and 16, decoding each record once. The passes avoid branches on the
     // kind, which alternates at random; later ones take each kind by itself.
@@ -517,43 +526,73 @@ fn judge_cells(
     let mut stamp = [0u16; SLOTS];
     let mut ways = Ways::new(table);
     let mut cases = [0u8; LABS];
-    for group in 0..LABS / 64 {
-        let mut bits = occupied[group];
-        while bits != 0 {
-            let lab = group * 64 + bits.trailing_zeros() as usize;
-            bits &= bits - 1;
-            let found = lab_rules(
-                lab, marks[lab], heads[lab], &next, cells, &mut stamp, &mut ways,
-            );
-            match found {
-                Ok(case) => cases[lab] = case,
-                Err(number) => {
-                    let lowest = heads[lab]
-                        .into_iter()
-                        .filter(|&h| h != 0)
-                        .min()
-                        .unwrap_or(1);
-                    let record = at_answer_record(number, apprentice, lowest as usize - 1);
-                    return Verdict {
-                        cell: NONE,
-                        lab: lab as u16,
-                        ..record
-                    };
+    for lab in labs_of(&occupied) {
+        let number = match lab_rules(lab, marks[lab], heads[lab], &next, cells, &mut stamp) {
+            Ok(case) => {
+                cases[lab] = case;
+                if ways.exists(case as usize) {
+                    continue;
                 }
+                // All partial ways of this LAB, and the tries of the lower ones.
+                tries.fill(0);
+                for l in labs_of(&occupied).take_while(|&l| l <= lab) {
+                    tries[l] = ways.tries[cases[l] as usize];
+                }
+                65
             }
-        }
+            Err(number) => number,
+        };
+        let lowest = heads[lab]
+            .into_iter()
+            .filter(|&h| h != 0)
+            .min()
+            .unwrap_or(1);
+        let record = at_answer_record(number, apprentice, lowest as usize - 1);
+        return Verdict {
+            cell: NONE,
+            lab: lab as u16,
+            ..record
+        };
     }
 
     route.fill(255);
-    for group in 0..LABS / 64 {
-        let mut bits = occupied[group];
-        while bits != 0 {
-            let lab = group * 64 + bits.trailing_zeros() as usize;
-            bits &= bits - 1;
-            route[8 * lab..8 * lab + 8].copy_from_slice(&ways.bytes[cases[lab] as usize]);
-        }
+    tries.fill(0);
+    for lab in labs_of(&occupied) {
+        let case = cases[lab] as usize;
+        route[8 * lab..8 * lab + 8].copy_from_slice(&ways.bytes[case]);
+        tries[lab] = ways.tries[case];
     }
     at_answer_end(0, apprentice, answer)
+}
+
+/// The LABs whose bits are set, rising.
+struct Labs<'a> {
+    occupied: &'a [u64; LABS / 64],
+    group: usize,
+    bits: u64,
+}
+
+fn labs_of(occupied: &[u64; LABS / 64]) -> Labs<'_> {
+    Labs {
+        occupied,
+        group: 0,
+        bits: occupied[0],
+    }
+}
+
+impl Iterator for Labs<'_> {
+    type Item = usize;
+
+    #[inline(always)]
+    fn next(&mut self) -> Option<usize> {
+        while self.bits == 0 {
+            self.group += 1;
+            self.bits = *self.occupied.get(self.group)?;
+        }
+        let lab = 64 * self.group + self.bits.trailing_zeros() as usize;
+        self.bits &= self.bits - 1;
+        Some(lab)
+    }
 }
 
 /// Cells of one kind, rising.
@@ -624,7 +663,7 @@ fn lowest(first: u8, broken: &[bool]) -> u8 {
     first + broken.iter().position(|&b| b).unwrap_or(0) as u8
 }
 
-/// The lowest of 60 to 65 that the LAB breaks, else the case of its way.
+/// The lowest of 60 to 64 that the LAB breaks, else the case of its needs.
 #[inline(always)]
 fn lab_rules(
     lab: usize,
@@ -633,7 +672,6 @@ fn lab_rules(
     next: &[u16; MAX_CELLS],
     cells: &[Cell],
     stamp: &mut [u16; SLOTS],
-    ways: &mut Ways,
 ) -> Result<u8, u8> {
     let list = |head: u16| {
         let mut at = head;
@@ -726,9 +764,5 @@ fn lab_rules(
         (sclr >= FIRST_NET) as usize,
         (sload >= FIRST_NET) as usize,
     );
-    if ways.exists(case) {
-        Ok(case as u8)
-    } else {
-        Err(65)
-    }
+    Ok(case as u8)
 }

@@ -9,6 +9,7 @@ use crate::forms::same;
 use crate::generate::*;
 use crate::hex;
 use crate::judge;
+use crate::lent::Lent;
 use crate::proved;
 use crate::settings::HOUSE;
 use std::fmt::Write;
@@ -254,7 +255,7 @@ pub struct Marking {
     before: Vec<Row>,
     left: Vec<Row>,
     right: Vec<Row>,
-    route: Vec<u8>,
+    lent: Lent,
     others: Vec<Vec<u8>>,
 }
 
@@ -265,7 +266,7 @@ impl Marking {
             before: Vec::new(),
             left: Vec::new(),
             right: Vec::new(),
-            route: vec![0; judge::ROUTE],
+            lent: Lent::new(),
             others: Vec::new(),
         }
     }
@@ -373,7 +374,7 @@ impl Marking {
         let [settings, exercise, sheet] = sheets;
         let read = class::answers(sheet);
         self.expect(class, &read)?;
-        let alone = class::row_of(settings, exercise, &[], &mut self.route);
+        let alone = class::row_of(settings, exercise, &[], self.lent.parts());
         let empty = alone.number;
         let made = read.as_ref().map_or(class.answers.len(), |list| list.len());
         let mut marked = Vec::new();
@@ -478,7 +479,7 @@ impl Marking {
         rows: &[Row],
     ) -> Result<(), String> {
         for (i, (answer, row)) in answers.iter().zip(rows).enumerate() {
-            let single = proved::row(settings, exercise, answer, &mut self.route);
+            let single = proved::row(settings, exercise, answer, self.lent.parts());
             same(&format!("row {i} beside a single call"), *row, single)?;
         }
         Ok(())

@@ -182,7 +182,7 @@ fn breaks_register_rule(c: &CellRecord) -> bool {
 }
 
 /// All lists of so many different entries below `count`, in rising order.
-fn lists(count: usize, length: usize) -> &'static [Vec<u8>] {
+pub fn lists(count: usize, length: usize) -> &'static [Vec<u8>] {
     static MADE: [[OnceLock<Vec<Vec<u8>>>; 9]; 9] = [const { [const { OnceLock::new() }; 9] }; 9];
     MADE[count][length].get_or_init(|| {
         let mut all = vec![vec![]];

@@ -4,6 +4,7 @@
 
 use crate::class::Row;
 use crate::judge::Verdict;
+use crate::lent::Parts;
 use crate::minutes::Credit;
 use crate::plain::{CellRecord, Settings, Step};
 
@@ -18,6 +19,8 @@ extern "C" {
         answer_len: usize,
         route: *mut u8,
         route_len: usize,
+        tries: *mut u32,
+        tries_count: usize,
         numbers: *mut u64,
     );
     fn nurimkkot_mark_class(
@@ -114,7 +117,7 @@ pub fn house_settings() -> Vec<u8> {
 }
 
 /// Number, cell, LAB, apprentice, sheet, start and size as the library gives them.
-pub fn judge(settings: &[u8], exercise: &[u8], answer: &[u8], route: &mut [u8]) -> [u64; 7] {
+pub fn judge(settings: &[u8], exercise: &[u8], answer: &[u8], (route, tries): Parts) -> [u64; 7] {
     // Filled beforehand, to see every number written.
     let mut numbers = [0xdead_beef_dead_beef; 7];
     unsafe {
@@ -127,6 +130,8 @@ pub fn judge(settings: &[u8], exercise: &[u8], answer: &[u8], route: &mut [u8]) 
             answer.len(),
             route.as_mut_ptr(),
             route.len(),
+            tries.as_mut_ptr(),
+            tries.len(),
             numbers.as_mut_ptr(),
         );
     }
@@ -204,9 +209,9 @@ pub fn minutes(log: &[u8], rows: &mut [Credit], numbers: &mut [u16]) -> (u8, [us
 }
 
 /// The row of one answer, by a single call.
-pub fn row(settings: &[u8], exercise: &[u8], answer: &[u8], route: &mut [u8]) -> Row {
+pub fn row(settings: &[u8], exercise: &[u8], answer: &[u8], lent: Parts) -> Row {
     let [number, cell, lab, apprentice, ..] =
-        judge(settings, exercise, answer, route).map(|n| n as u32);
+        judge(settings, exercise, answer, lent).map(|n| n as u32);
     Row {
         number,
         cell,

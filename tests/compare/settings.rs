@@ -231,8 +231,9 @@ pub struct Counts {
     pub renumbered: u64,
     /// 70 to 75 beside another fault of the two sheets.
     pub beside: u64,
-    /// 1 beside a settings sheet that is none.
+    /// 1 and 3 beside a settings sheet that is none.
     pub buffer: u64,
+    pub list: u64,
 }
 
 impl Counts {
@@ -246,6 +247,7 @@ impl Counts {
             renumbered: 0,
             beside: 0,
             buffer: 0,
+            list: 0,
         }
     }
 

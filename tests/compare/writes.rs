@@ -2,15 +2,17 @@
 //! records, places and boards of their own; what was written is read, judged and
 //! written again.
 
+use crate::both::{describe, Both, Call};
 use crate::faults::*;
 use crate::forms::{self, same};
 use crate::generate::*;
+use crate::hex;
 use crate::judge;
+use crate::lent::{Lent, GUARD};
 use crate::plain::{self, Settings, Step};
 use crate::proved;
 use crate::settings::HOUSE;
 use crate::writer;
-use crate::{describe, hex, Both, GUARD};
 use std::fmt::Write;
 
 /// How often each thing was compared; three are exercises, answers and settings.
@@ -273,7 +275,7 @@ pub struct Writes {
     left: Vec<u8>,
     right: Vec<u8>,
     judges: Both,
-    route: Vec<u8>,
+    lent: Lent,
 }
 
 impl Writes {
@@ -293,7 +295,7 @@ impl Writes {
             left: Vec::new(),
             right: Vec::new(),
             judges: Both::new(),
-            route: vec![0; judge::ROUTE],
+            lent: Lent::new(),
         }
     }
 
@@ -399,7 +401,7 @@ impl Writes {
         let number = match number {
             10..=16 | 24 => {
                 let other = beside(plain::word(answer, 9).min(512) as usize).exercise();
-                judge::judge(&HOUSE, &other, answer, &mut self.route).number
+                judge::judge(&HOUSE, &other, answer, self.lent.parts()).number
             }
             n => n,
         };
@@ -516,7 +518,7 @@ impl Writes {
         let answer = or(other, answer, good.answer());
         let n = self
             .judges
-            .run(&settings, &exercise, &answer, fill, judge::ROUTE)?;
+            .run(&Call::right(&settings, &exercise, &answer), fill)?;
         if n[0] >= 70 || (n[0] != 0 && n[0] < 30) {
             let sheets =
                 hex("settings", &settings) + &hex("exercise", &exercise) + &hex("answer", &answer);

@@ -1,5 +1,5 @@
-"""Compares what docs/SHEETS.md, docs/SAMPLES.md, docs/VERDICTS.md, docs/CLASS.md and docs/MINUTES.md show with the files, the tool and the judge:
-pages.py TOP. LIBDIR: folder of libc_api.a."""
+"""Compares what docs/SHEETS.md, docs/SAMPLES.md, docs/VERDICTS.md, docs/CLASS.md, docs/MINUTES.md and docs/TRIES.md show with the files, the tool
+and the judge: pages.py TOP. LIBDIR: folder of libc_api.a."""
 
 import os
 import re
@@ -10,6 +10,7 @@ import tempfile
 
 TOP = sys.argv[1]
 sys.path.insert(0, os.path.join(TOP, "tools"))
+import page_commands  # noqa: E402
 import sheets  # noqa: E402
 
 EXAMPLE = os.path.join(TOP, "target", "c", "example")
@@ -231,13 +232,14 @@ def copy_for_command(folder):
 
 
 def library_commands():
-    """The commands of docs/CLASS.md, docs/MINUTES.md and docs/SHEETS.md, one after the other. The first call links the library."""
+    """The commands of docs/CLASS.md, docs/MINUTES.md, docs/TRIES.md and docs/SHEETS.md, one after the other. The first call links the library."""
     with tempfile.TemporaryDirectory() as folder:
         copy_for_command(folder)
         path = os.path.join(folder, "made-up") + os.pathsep + os.environ["PATH"]
         subprocess.run(["./nurimkkot", "class", "samples/class"], cwd=folder, capture_output=True, env=dict(os.environ, PATH=path))
-        ran = commands("CLASS.md", folder, path) + commands("MINUTES.md", folder, path) + commands("SHEETS.md", folder, path)
-        for name, sample in (("marks.csv", "samples/class/class.csv"), ("minutes.csv", "samples/minutes-class/minutes.csv")):
+        ran = sum(commands(name, folder, path) for name in ("CLASS.md", "MINUTES.md", "TRIES.md", "SHEETS.md"))
+        for name, sample in (("marks.csv", "samples/class/class.csv"), ("minutes.csv", "samples/minutes-class/minutes.csv"),
+                             ("tries.csv", "samples/v65-35-tries/tries.csv")):
             with open(os.path.join(folder, name), "rb") as file:
                 assert file.read() == stored(sample), name
     return ran
@@ -255,22 +257,7 @@ def minutes_page():
 
 
 def commands(name, top=TOP, path=os.environ["PATH"]):
-    """Each command behind a dollar sign prints what stands below it; a blank line is part of that where more of it follows."""
-    ran, lines = 0, page(name).splitlines()
-    for i, line in enumerate(lines):
-        if not line.startswith("    $ "):
-            continue
-        shown = []
-        for below, after in zip(lines[i + 1:], lines[i + 2:] + [""]):
-            if not (below or after).startswith("    ") or (below or after).startswith("    $ "):
-                break
-            shown.append(below[4:])
-        done = subprocess.run(line[6:].replace("./example ", "target/c/example "), shell=True, cwd=top, text=True,
-                              capture_output=True, env=dict(os.environ, PYTHONDONTWRITEBYTECODE="1", PATH=path))
-        assert done.returncode == 0 and not done.stderr, (line, done)
-        assert done.stdout.splitlines() == shown, "%s: %s prints\n%s" % (name, line, done.stdout)
-        ran += 1
-    return ran
+    return page_commands.run(name, page(name), top, path)
 
 
 def counter():
@@ -296,7 +283,7 @@ def counter():
 
 def links():
     """Every page that is linked to is there."""
-    for name in ("SHEETS.md", "SAMPLES.md", "VERDICTS.md", "TABLET.md", "CLASS.md", "MINUTES.md"):
+    for name in ("SHEETS.md", "SAMPLES.md", "VERDICTS.md", "TABLET.md", "CLASS.md", "MINUTES.md", "TRIES.md", "AUTHORS.md"):
         for target in re.findall(r"\]\(([^)#]+)", page(name)):
             assert os.path.exists(os.path.join(TOP, "docs", target)), (name, target)
 

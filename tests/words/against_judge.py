@@ -3,11 +3,12 @@ PAIRS SEED.
 
 The printed text alone is read: from it the first LAB that breaks one of 60 to 65 is found, all
 ways tried one by one on the printed entries, and the judge has to name that LAB with that number,
-or say legal with the routes that follow from the printed needs. The number of 70 to 75 that the
-judge gives has to follow from what is printed as wrong with the settings sheet.
+or say legal with the routes that follow from the printed needs. The tries have to follow from these
+needs too, and the number of 70 to 75 from what is printed as wrong with the settings sheet.
 """
 
 import ctypes
+import functools
 import itertools
 import os
 import random
@@ -22,16 +23,18 @@ from sheets import (GND, HOUSE, OPEN, SECOND, VCC, answer, comb, exercise, inv, 
 library = ctypes.CDLL(os.path.join(TOP, "target", "words", "libnurimkkot.so"))
 library.nurimkkot_judge.restype = None
 library.nurimkkot_judge.argtypes = ([ctypes.c_char_p, ctypes.c_size_t] * 3
-                                    + [ctypes.c_void_p, ctypes.c_size_t, ctypes.c_void_p])
+                                    + [ctypes.c_void_p, ctypes.c_size_t] * 2 + [ctypes.c_void_p])
 NONE = 65535
 
 
 def judge(board, ex, an):
-    """Number, cell, LAB, apprentice, sheet, start and length, and the route buffer."""
+    """Number, cell, LAB, apprentice, sheet, start and length, the route buffer and the list of
+    tries."""
     numbers = (ctypes.c_uint64 * 7)()
     route = (ctypes.c_uint8 * 8192)()
-    library.nurimkkot_judge(board, len(board), ex, len(ex), an, len(an), route, 8192, numbers)
-    return list(numbers), bytes(route)
+    tries = (ctypes.c_uint32 * 1024)()
+    library.nurimkkot_judge(board, len(board), ex, len(ex), an, len(an), route, 8192, tries, 1024, numbers)
+    return list(numbers), bytes(route), list(tries)
 
 
 # ---------------------------------------------------------------- what is printed
@@ -54,11 +57,11 @@ def read_board(text):
     sheet = text.split("\nexercise: ")[0]
     for number, fault in FAULTS:
         if re.search(fault, sheet, re.MULTILINE):
-            return number, []
+            return number, ()
     found = [ENTRY.fullmatch(line).groups() for line in sheet.splitlines()
              if line.startswith("  entry ")]
     assert "bad" not in sheet and [int(i) for i, _ in found] == list(range(len(found))), sheet
-    return 0, [[] if roles == "nothing" else roles.split(", ") for _, roles in found]
+    return 0, tuple(() if roles == "nothing" else tuple(roles.split(", ")) for _, roles in found)
 
 
 def read_cells(text):
@@ -136,12 +139,30 @@ def nets_in(cells, lab):
     return sorted({int(signal[4:]) for _, signal in ports if signal not in driven})
 
 
+def roles_of(lab):
+    return tuple(need.split()[0] for need in lab["needs"])
+
+
+@functools.lru_cache(maxsize=None)
 def earliest(roles, entries):
     """The earliest way, found by trying all lists of different entries in their order, or None."""
     for way in itertools.permutations(range(len(entries)), len(roles)):
         if all(role in entries[entry] for role, entry in zip(roles, way)):
             return way
     return None
+
+
+@functools.lru_cache(maxsize=None)
+def tries_of(roles, entries):
+    """The tries: of all lists of different entries for the first one or more needs, those that
+    serve them and are at or before the earliest way."""
+    way, count = earliest(roles, entries), 0
+    for length in range(1, len(roles) + 1):
+        for some in itertools.permutations(range(len(entries)), length):
+            if way is not None and some > way[:length]:
+                break
+            count += all(role in entries[entry] for role, entry in zip(roles, some))
+    return count
 
 
 def broken(lab, entries):
@@ -156,7 +177,7 @@ def broken(lab, entries):
         return 63
     if len(lab["nets in"]) > 38:
         return 64
-    if earliest([need.split()[0] for need in lab["needs"]], entries) is None:
+    if earliest(roles_of(lab), entries) is None:
         return 65
     return 0
 
@@ -173,7 +194,7 @@ def route_of(lab, entries):
     assert order == sorted(set(order)), needs
     route = bytearray([255] * 8)
     seen = {role: 0 for role in ROLES}
-    for (role, _), entry in zip(needs, earliest([role for role, _ in needs], entries)):
+    for (role, _), entry in zip(needs, earliest(roles_of(lab), entries)):
         route[BYTES[role][seen[role]]] = entry
         seen[role] += 1
     return bytes(route)
@@ -183,7 +204,7 @@ def hold(what, board, ex, an, tally):
     """Compare the two; says nothing where a rule up to 51 is broken but that words works."""
     text = words(ex, an, labs=True, settings=board)
     fault, entries = read_board(text)
-    numbers, route = judge(board, ex or b"", an or b"")
+    numbers, route, tries = judge(board, ex or b"", an or b"")
     number, _, lab, _, _, start, _ = numbers
     assert fault == (number if 70 <= number <= 75 else 0), (what, board, fault, number)
     if fault:
@@ -210,6 +231,11 @@ def hold(what, board, ex, an, tally):
         for n, has in labs.items():
             whole[8 * n:8 * n + 8] = route_of(has, entries)
         assert route == bytes(whole), (what, "another route")
+    counted = [0] * 1024
+    for n, has in labs.items():
+        if number == 0 or number == 65 and n <= lab:
+            counted[n] = tries_of(roles_of(has), entries)
+    assert tries == counted, (what, "other tries")
     tally[number] = tally.get(number, 0) + 1
     for has in labs.values():
         at_most = (len(has["clk"]) == 2, len(has["(clk, ena)"]) == 2, len(has["aclr"]) == 2,

@@ -26,7 +26,7 @@ use Rattle.settings.specs.Settings.{flags, settingsNumbers, settingsEntries}
 use Rattle.settings.proofs.Laws.{passed, flags-length}
 use Rattle.route.specs.Table.{ENTRIES}
 use Rattle.writer.specs.Boards.{boardOf, SettingsPass}
-use Rattle.writer.proofs.Again.{table-at}
+use Rattle.sheet.proofs.Lists.{table-at}
 use Rattle.c_api.specs.Told.{cellTold, cellFields, placeTold, placeFields}
 use Rattle.c_api.specs.Circle.{CellsRead, PlacesRead, BoardRead, Circle}
 

@@ -15,7 +15,7 @@ ghost use lib.ListN.{length};
 ghost use Rattle.settings.specs.Settings.{settingsNumber, settingsNumbers, settingsEntries};
 ghost use Rattle.settings.specs.House.{houseSettings};
 ghost use Rattle.judge.specs.Call.{call};
-ghost use Rattle.judge.specs.Judge.{judged, routed};
+ghost use Rattle.judge.specs.Judge.{judged, routed, tried};
 ghost use Rattle.class.specs.Class.{marked, rowsAfter};
 ghost use Rattle.tablet_log.specs.Credited.{credited, creditsAfter, numbersAfter};
 ghost use Rattle.exercise.specs.Exercise.{exerciseNumber};
@@ -60,20 +60,23 @@ fn sheet_number(of_answer: bool) -> u64
     if of_answer { 1 } else { 0 }
 }
 
-// Judges an exercise and an answer on the board of a settings sheet. Asks nothing of the contents: sheets of any bytes, a route buffer of any length.
-// The route buffer is written where the verdict is 0, all 8,192 bytes of it, and left as it is otherwise.
+// Judges an exercise and an answer on the board of a settings sheet. Asks nothing of the contents: sheets of any bytes, a route buffer and a list of tries of
+// any length. The route buffer is written where the verdict is 0, all 8,192 bytes of it, the list where it is 0 or 65, all 1,024 numbers; otherwise they are
+// left as they are.
 #[no_mangle]
 pub extern "C" fn nurimkkot_judge(
     settings: &[u8],
     exercise: &[u8],
     answer: &[u8],
     route: &mut [u8],
+    tries: &mut [u32],
     numbers: &mut [u64; 7],
 )
-    ensures routes { λ _. ⌜ now (route .exit) ≡ routed (call (now (settings .entry)) (now (exercise .entry)) (now (answer .entry)) (length (now (route .entry)))) (now (route .entry)) ⌝ }
-    ensures told { λ _. ⌜ now (numbers .exit) ≡ sevenNumbers (judged (call (now (settings .entry)) (now (exercise .entry)) (now (answer .entry)) (length (now (route .entry))))) ⌝ }
+    ensures routes { λ _. ⌜ now (route .exit) ≡ routed (call (now (settings .entry)) (now (exercise .entry)) (now (answer .entry)) (length (now (route .entry))) (length (now (tries .entry)))) (now (route .entry)) ⌝ }
+    ensures counts { λ _. ⌜ now (tries .exit) ≡ tried (call (now (settings .entry)) (now (exercise .entry)) (now (answer .entry)) (length (now (route .entry))) (length (now (tries .entry)))) (now (tries .entry)) ⌝ }
+    ensures told { λ _. ⌜ now (numbers .exit) ≡ sevenNumbers (judged (call (now (settings .entry)) (now (exercise .entry)) (now (answer .entry)) (length (now (route .entry))) (length (now (tries .entry))))) ⌝ }
 {
-    let v = judge::judge_sheets(settings, exercise, answer, route);
+    let v = judge::judge_sheets(settings, exercise, answer, route, tries);
     let culprit = v.culprit;
     let number = wide8(v.number);
     let cell = wide16(v.cell);

@@ -92,9 +92,9 @@ unfolding rowFrom
 row-told t p ds e a f number cell lab apprentice x n c l q = rw (n, c, l, q) (ap (rowOn a) x)
 
 -- what was prepared serves each answer: its row is that of the judge's own verdict
-row-judged : (s e a : List ℕ) → rowFrom (eightRows (tableOf s)) (preparedFor s e) (driversFor s e) e a ≡ numbersOf (judged (call s e a 8192))
+row-judged : (s e a : List ℕ) → rowFrom (eightRows (tableOf s)) (preparedFor s e) (driversFor s e) e a ≡ numbersOf (judged (call s e a 8192 1024))
 unfolding rowFrom judged verdictOf
-row-judged s e a = ap (rowOn a) (prepared-serves s e a 8192 refl)
+row-judged s e a = ap (rowOn a) (prepared-serves s e a 8192 1024 refl refl)
 
 rows-judged : (s e k : List ℕ) (is : List ℕ)
     → map (λ i. rowFrom (eightRows (tableOf s)) (preparedFor s e) (driversFor s e) e (answerOf k i)) is ≡ map (rowOf s e) (map (answerOf k) is)

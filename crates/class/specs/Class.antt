@@ -59,11 +59,12 @@ refusal k rows = firstNumber (classChecks k rows)
 unfoldable pub marked : List ℕ → ℕ → Marked
 marked k rows = record { number = refusal k rows; filled = cond (eqb (refusal k rows) 0) (answerCount k) 0 }
 
--- ---- the rows: "one verdict row (no culprit) per answer comes out, equal to what single calls would say with a route buffer of the right size, in order"
+-- ---- the rows: "one verdict row (no culprit) per answer comes out, equal to what single calls would say with a route buffer of the right size, in order"; M-106: "class rows read
+-- as with a right list"
 
 -- number, cell, LAB and apprentice of the judge's own verdict on the answer `a`
 unfoldable pub rowOf : List ℕ → List ℕ → List ℕ → List ℕ
-rowOf s e a = numbersOf (judged (call s e a 8192))
+rowOf s e a = numbersOf (judged (call s e a 8192 1024))
 
 unfoldable pub rowsOf : List ℕ → List ℕ → List ℕ → List (List ℕ)
 rowsOf s e k = map (rowOf s e) (answersOn k)

@@ -137,9 +137,9 @@ module _ (c : Call) where
 
   -- ---- the groups of checks
   -- 1
-  room-fine : Fine (firstBroken (roomChecks (c .room)))
+  room-fine : Fine (firstBroken (roomChecks (c .room) (c .slots)))
   unfolding roomChecks AllFine faultOf
-  room-fine = found-fine (roomChecks (c .room)) (search needs)
+  room-fine = found-fine (roomChecks (c .room) (c .slots)) (search needs)
 
   -- 70 to 75
   settings-fine : Fine (firstBroken (settingsGroup (c .settings)))
@@ -227,7 +227,7 @@ module _ (c : Call) where
   to-51-fine : Fine (firstBroken (checksTo51 c))
   unfolding checksTo51 sheetChecks
   to-51-fine =
-      turn Fine (roomChecks (c .room)) (settingsGroup (c .settings) ++ (exerciseGroup e ++ (answerGroup e a ++ (cellGroup e ++ placeGroup e a)))) room-fine
+      turn Fine (roomChecks (c .room) (c .slots)) (settingsGroup (c .settings) ++ (exerciseGroup e ++ (answerGroup e a ++ (cellGroup e ++ placeGroup e a)))) room-fine
       (λ _. turn Fine (settingsGroup (c .settings)) (exerciseGroup e ++ (answerGroup e a ++ (cellGroup e ++ placeGroup e a))) settings-fine
       (λ _. turn Fine (exerciseGroup e) (answerGroup e a ++ (cellGroup e ++ placeGroup e a)) exercise-fine
       (λ x. turn Fine (answerGroup e a) (cellGroup e ++ placeGroup e a) (answer-fine (long-exercise x))

@@ -18,7 +18,7 @@ pub fault-in : (k : Fault) (ns : List ℕ) → AllAt k ns → (n : ℕ) → elem
 unfolding AllAt
 fault-in k ns h n m = all-give faultOf k ns h n m
 
-pub call : AllAt Call (0 ∷ 1 ∷ 70 ∷ 71 ∷ 72 ∷ 73 ∷ 74 ∷ 75 ∷ [])
+pub call : AllAt Call (0 ∷ 1 ∷ 3 ∷ 70 ∷ 71 ∷ 72 ∷ 73 ∷ 74 ∷ 75 ∷ [])
 unfolding AllAt faultOf
 call = refl
 

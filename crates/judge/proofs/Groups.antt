@@ -159,7 +159,8 @@ sheets-find s e a =
 -- 1 to 51
 pub to-51-finds : (c : Call) → firstBroken (checksTo51 c)
     ≡ cond (not (eqb (c .room) 8192)) (finding 1 NONE NONE)
+    (cond (not (eqb (c .slots) 1024)) (finding 3 NONE NONE)
     (then (firstBroken (settingsGroup (c .settings) ++ exerciseGroup (c .exercise)))
-    (then (firstBroken (answerGroup (c .exercise) (c .answer))) (then (firstBroken (cellGroup (c .exercise))) (firstBroken (placeGroup (c .exercise) (c .answer))))))
+    (then (firstBroken (answerGroup (c .exercise) (c .answer))) (then (firstBroken (cellGroup (c .exercise))) (firstBroken (placeGroup (c .exercise) (c .answer)))))))
 unfolding checksTo51 roomChecks
 to-51-finds c = rw (sheets-find (c .settings) (c .exercise) (c .answer))

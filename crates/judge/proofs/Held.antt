@@ -50,7 +50,7 @@ unfolding checksTo51 sheetChecks
 held-groups c h =
     let e = c .exercise in
     let a = c .answer in
-    let after-room = hold-append (roomChecks (c .room)) (settingsGroup (c .settings) ++ (exerciseGroup e ++ (answerGroup e a ++ (cellGroup e ++ placeGroup e a)))) h .1 in
+    let after-room = hold-append (roomChecks (c .room) (c .slots)) (settingsGroup (c .settings) ++ (exerciseGroup e ++ (answerGroup e a ++ (cellGroup e ++ placeGroup e a)))) h .1 in
     let settings = hold-append (settingsGroup (c .settings)) (exerciseGroup e ++ (answerGroup e a ++ (cellGroup e ++ placeGroup e a))) after-room in
     let exercise = hold-append (exerciseGroup e) (answerGroup e a ++ (cellGroup e ++ placeGroup e a)) (settings .1) in
     let answer = hold-append (answerGroup e a) (cellGroup e ++ placeGroup e a) (exercise .1) in

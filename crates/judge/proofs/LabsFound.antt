@@ -2,6 +2,7 @@
 use Prim.Native.Nat.{ℕ, zero, suc, _+_, _<_}
 use native.Mathlib.Omega.{arith}
 use mathlib.Core.Path.{_≡_, refl, sym, ap, _∙_}
+use mathlib.Core.Logic.{_⊎_, inl, inr, ⊎-elim}
 use mathlib.Core.Bool.{Bool, false}
 use mathlib.Core.List.{List, map}
 use lib.ListN.{length, getD, replicate}
@@ -14,16 +15,17 @@ use Rattle.exercise.specs.declared.Record.{Record}
 use Rattle.sheet.proofs.Laws.{by-test}
 use Rattle.route.specs.Table.{Table}
 use Rattle.route.proofs.AllWays.{SameServed}
-use Rattle.lab_rules.specs.Rules.{labChecks, labNumber, routeOf, labResult}
+use Rattle.lab_rules.specs.Rules.{labChecks, labNumber, routeOf, labResult, labTries}
 use Rattle.lab_rules.specs.passes.Counts.{AllFit}
 use Rattle.lab_rules.specs.declared.LabResult.{LabResult}
-use Rattle.lab_rules.proofs.Served.{same-result}
+use Rattle.lab_rules.specs.declared.LabSearch.{LabSearch}
+use Rattle.lab_rules.proofs.Served.{same-result, same-tries}
 use Rattle.tables.specs.Records.{cell}
 use Rattle.placing.specs.Places.{labAt}
 use Rattle.lab_pass.specs.Members.{members}
-use Rattle.lab_pass.specs.passes.Results.{resultAt, hasCells, putRows}
+use Rattle.lab_pass.specs.passes.Results.{searchOf, searchAt, resultAt, triesAt, hasCells, putRows}
 use Rattle.lab_pass.proofs.Linked.{walk-members}
-use Rattle.lab_pass.proofs.Labs.{result-is-lab}
+use Rattle.lab_pass.proofs.Labs.{result-is-lab, tries-is-lab}
 use Rattle.lab_pass.proofs.Passing.{none-in}
 use Rattle.lab_pass.proofs.Rows.{rows-put, bytes-eight}
 use Rattle.sheet.specs.Checks.{NONE}
@@ -66,12 +68,25 @@ module _ (c : Call) (s : Sound (c .exercise)) (fits : (l : ℕ) → AllFit (labC
   unfolding labCells members
   members-known l = map-same (knownAt e) (cell e) (λ i. eqb (labAt a i) l) 0 (cellCount e) (λ i b. s .known i (omega arith))
 
+  search-at : (l : ℕ) → l < 1024
+      → searchAt u (knownAt e) (linked a (cellCount e) .first) (linked a (cellCount e) .next) l ≡ searchOf u (knownAt e) (members a (cellCount e) l)
+  unfolding searchAt
+  search-at l h = ap (searchOf u (knownAt e)) (walk-members a (cellCount e) l (s .cells) h)
+
   pub result-at : (l : ℕ) → l < 1024 → resultOfLab l ≡ labResult t (labCells c l)
-  unfolding resultAt
   result-at l h =
-      rw (walk-members a (cellCount e) l (s .cells) h)
-      (result-is-lab u (knownAt e) (members a (cellCount e) l) (rw (members-known l) (fits l)) ∙ ap (labResult u) (members-known l)
-      ∙ same-result u t served (labCells c l))
+      ap (λ (r : LabSearch). r .result) (search-at l h)
+      ∙ result-is-lab u (knownAt e) (members a (cellCount e) l) (rw (members-known l) (fits l)) ∙ ap (labResult u) (members-known l)
+      ∙ same-result u t served (labCells c l)
+
+  -- the tries, where the LAB is legal or has no way
+  pub tries-at : (l : ℕ) → l < 1024 → (resultOfLab l .number ≡ 0) ⊎ (resultOfLab l .number ≡ 65)
+      → triesAt u (knownAt e) (linked a (cellCount e) .first) (linked a (cellCount e) .next) l ≡ labTries t (labCells c l)
+  tries-at l h kept =
+      let same = ap (λ (r : LabSearch). r .result .number) (sym (search-at l h)) in
+      ap (λ (r : LabSearch). r .tries) (search-at l h)
+      ∙ tries-is-lab u (knownAt e) (members a (cellCount e) l) (rw (members-known l) (fits l)) (⊎-elim (λ z. inl (same ∙ z)) (λ z. inr (same ∙ z)) kept)
+      ∙ ap (labTries u) (members-known l) ∙ same-tries u t served (labCells c l)
 
   -- 60 to 65
   pub labs-are : numberedLab (λ l. resultOfLab l .number) ≡ firstBroken (labGroup c)
@@ -92,7 +107,7 @@ module _ (c : Call) (s : Sound (c .exercise)) (fits : (l : ℕ) → AllFit (labC
     rows-same g h i (suc k) q = rw (q i (omega arith), rows-same g h (suc i) k (λ l b. q l (omega arith)))
 
     eight : (l : ℕ) → length (resultOfLab l .bytes) ≡ 8
-    unfolding resultAt
+    unfolding searchAt
     eight l = bytes-eight u (knownAt e) _
 
     -- a LAB without cells has eight 255s
@@ -100,7 +115,7 @@ module _ (c : Call) (s : Sound (c .exercise)) (fits : (l : ℕ) → AllFit (labC
     inUse = hasCells (linked a (cellCount e) .first) (linked a (cellCount e) .next)
 
     none-routed : (l : ℕ) → inUse l ≡ false → resultOfLab l .bytes ≡ replicate 8 255
-    none-routed l h = ap (λ (r : LabResult). r .bytes) (none-in u (knownAt e) (linked a (cellCount e) .first) (linked a (cellCount e) .next) l h)
+    none-routed l h = ap (λ (r : LabSearch). r .result .bytes) (none-in u (knownAt e) (linked a (cellCount e) .first) (linked a (cellCount e) .next) l h)
 
     pub routes-are : (rows : List ℕ) → ((j : ℕ) → j < length rows → getD rows j 0 ≡ 255) → length rows ≡ 8192
         → putRows inUse (λ l. resultOfLab l .bytes) rows 1024 ≡ routeBytes c

@@ -4,6 +4,7 @@ pub mod Numbers
 pub mod Groups
 pub mod Sound
 pub mod LabsFound
+pub mod TriesFound
 pub mod FitCells
 pub mod Held
 pub mod Kept
@@ -16,6 +17,7 @@ pub mod NamesCulprit
 pub mod Demand1
 pub mod Demand2
 pub mod Demand3
+pub mod TriesTold
 pub mod AsBefore
 pub mod Steps
 pub mod Preparing

@@ -78,9 +78,9 @@ known-numbered ns none ks h = every-weaker (In ns) _ (λ k g. other 0 ns none (k
 pub run-known : (n : ℕ) → elemb n numbersTo51 ≡ true → (f : ℕ → Bool) (all : List ℕ) → Every To51 (perCell n f all)
 run-known n h f all = every-image To51 (λ i. cellCheck n i (f i)) (λ i. h) all
 
-pub room-known : (r : ℕ) → Every To51 (roomChecks r)
+pub room-known : (r n : ℕ) → Every To51 (roomChecks r n)
 unfolding roomChecks
-room-known r = search needs
+room-known r n = search needs
 
 pub settings-known : (s : List ℕ) → Every To51 (settingsGroup s)
 unfolding settingsGroup

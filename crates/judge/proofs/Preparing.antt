@@ -3,13 +3,13 @@
 use Prim.Native.Nat.{ℕ, _≤_, _<_}
 use native.Mathlib.Omega.{arith}
 use mathlib.Core.Path.{_≡_, refl, sym, ap, _∙_}
-use mathlib.Core.Bool.{cond, not}
-use mathlib.Core.List.{List, [], _++_}
+use mathlib.Core.Bool.{true, false, cond, not}
+use mathlib.Core.List.{List, [], _++_, map}
 use lib.ListN.{length, getD, replicate, length-replicate, getD-replicate}
-use lib.Dec.{eqb}
+use lib.Dec.{eqb, ltb}
 use borrow.Author.Tests.{eq-eqb, ne-eqb, eqb-true, lt-ltb, le-ltb}
 use Rattle.sheet.specs.Checks.{NONE}
-use Rattle.sheet.specs.Lists.{firstFrom}
+use Rattle.sheet.specs.Lists.{firstFrom, below, elemb}
 use Rattle.sheet.proofs.Laws.{by-test}
 use Rattle.sheet.proofs.First.{none-first}
 use Rattle.exercise.specs.Exercise.{cellCount}
@@ -18,30 +18,34 @@ use Rattle.route.specs.Table.{Table, eightRows}
 use Rattle.route.proofs.AllWays.{SameServed}
 use Rattle.settings.specs.Settings.{settingsNumber, tableOf}
 use Rattle.settings.proofs.Laws.{same-table}
+use Rattle.lab_rules.specs.Rules.{labTries}
 use Rattle.lab_rules.specs.passes.Counts.{AllFit}
 use Rattle.tables.specs.passes.Tables.{readsBelow, readersBelow, driversBelow}
 use Rattle.tables.proofs.Filled.{drivers-length}
 use Rattle.netlist.specs.Cells.{cellNumber}
 use Rattle.netlist.specs.passes.Numbers.{numberAt}
 use Rattle.lab_pass.specs.passes.Links.{Links}
-use Rattle.lab_pass.specs.passes.Results.{resultAt, brokenLab, lowestBroken, hasCells, putRows}
+use Rattle.lab_pass.specs.passes.Results.{resultAt, triesAt, brokenLab, lowestBroken, hasCells, putRows, putTries, searchedLabs}
 use Rattle.lab_pass.specs.declared.LowestBroken.{LowestBroken}
 use Rattle.lab_pass.proofs.Passing.{lowest-lab, lowest-number}
 use Rattle.lab_pass.proofs.Rows.{rows-long}
+use Rattle.lab_pass.proofs.Tried.{filled-long}
 use Rattle.judge.specs.declared.Finding.{Finding}
 use Rattle.judge.specs.declared.Prepared.{Prepared}
 use Rattle.judge.specs.declared.Verdict.{Verdict}
 use Rattle.judge.specs.Call.{Call, call}
-use Rattle.judge.specs.Judge.{finding, legal, roomChecks, settingsGroup, exerciseGroup, answerGroup, cellGroup, placeGroup, labGroup, checksTo51, checks, labCells, firstBroken, verdictOf, judged, routeBytes, routed}
+use Rattle.judge.specs.Judge.{finding, legal, roomChecks, settingsGroup, exerciseGroup, answerGroup, cellGroup, placeGroup, labGroup, checksTo51, checks, labCells, firstBroken, verdictOf, judged, routeBytes, routed, triesOf, tried}
+use Rattle.judge.specs.Numbers.{numbersTo51, searchedNumbers}
 use Rattle.judge.specs.passes.Stages.{numberedAs, numbered, numberedLab, placedBy}
-use Rattle.judge.specs.passes.Preparing.{then, earlyIn, preparedFor, driversFor, foundTo51, linked, foundInLabs, rowsOfLabs, foundFrom}
-use Rattle.judge.proofs.Broken.{first-append}
-use Rattle.judge.proofs.Numbers.{to-51-numbered}
+use Rattle.judge.specs.passes.Preparing.{then, earlyIn, preparedFor, driversFor, foundTo51, linked, foundInLabs, rowsOfLabs, triesOfLabs, foundFrom}
+use Rattle.judge.proofs.Broken.{first-append, found}
+use Rattle.judge.proofs.Numbers.{In, all-give, every-weaker, to-51-known, to-51-numbered}
 use Rattle.judge.proofs.Groups.{then-stays, then-goes, then-first, then-second, settings-finds, early-finds, fixed-finds, cells-finds, to-51-finds}
 use Rattle.judge.proofs.Numbering.{numbered-none}
 use Rattle.judge.proofs.Sound.{Sound, sound-of, cells-are, places-are}
 use Rattle.judge.proofs.FitCells.{lab-fit}
 use Rattle.judge.proofs.LabsFound.{labs-are, routes-are}
+use Rattle.judge.proofs.TriesFound.{tries-are-told}
 
 abbrev numberIn : Finding → ℕ
 numberIn f = f .number
@@ -190,7 +194,12 @@ module _ (t : Table) (e a : List ℕ) (cells : ℕ) (first next : List ℕ) (n :
   unfolding rowsOfLabs
   rows-of before after p = p ∙ rw (found, x, y, n)
 
--- ---- the rows begin as 255s and keep their length
+  pub tries-of : (before after : List ℕ)
+      → after ≡ putTries (hasCells first next) (triesAt t (knownAt e) first next) before (searchedLabs (l .lab)) → after ≡ triesOfLabs t e a before
+  unfolding triesOfLabs
+  tries-of before after p = p ∙ rw (found, x, y, n)
+
+-- ---- the rows begin as 255s, the tries as 0s, and keep their length
 abbrev blank : List ℕ
 blank = replicate 8192 255
 
@@ -204,7 +213,14 @@ pub rows-size : (t : Table) (e a rows : List ℕ) → rows ≡ rowsOfLabs t e a 
 unfolding rowsOfLabs
 rows-size t e a rows p = sym (rw p (rows-long _ _ blank _ ∙ blank-size))
 
--- ---- all numbers but 1, and the rows copied where there is none
+abbrev zeros : List ℕ
+zeros = replicate 1024 0
+
+pub tries-size : (t : Table) (e a list : List ℕ) → list ≡ triesOfLabs t e a zeros → 1024 ≡ length list
+unfolding triesOfLabs
+tries-size t e a list p = sym (rw p (filled-long _ _ 1024 _))
+
+-- ---- all numbers but 1 and 3, and the rows and the tries handed out
 module _ (t : Table) (p : Prepared) (ds e a : List ℕ) (f : Finding) (x : f ≡ foundTo51 p ds e a) where
   pub found-stays : (f .number ≡ 0 → ⊥) → f ≡ foundFrom t p ds e a
   unfolding foundFrom
@@ -216,18 +232,18 @@ module _ (t : Table) (p : Prepared) (ds e a : List ℕ) (f : Finding) (x : f ≡
 
 pub ruleset found-steps = (found-stays, found-goes)
 
-module _ (t : Table) (e a before : List ℕ) (f : Finding) (x : f ≡ foundInLabs t e a) where
-  pub route-stays : (f .number ≡ 0 → ⊥) → (f ≡ foundInLabs t e a) × (before ≡ cond (eqb (f .number) 0) (rowsOfLabs t e a blank) before)
-  route-stays h = (x, rw (ne-eqb (f .number) 0 h))
+module _ (t : Table) (e a : List ℕ) (f : Finding) (x : f ≡ foundInLabs t e a) where
+  pub labs-handed : (rows counts : List ℕ) → rows ≡ rowsOfLabs t e a blank → counts ≡ triesOfLabs t e a zeros
+      → (route after : List ℕ) → after ≡ cond (eqb (f .number) 0) rows route
+      → (list tries : List ℕ) → tries ≡ cond (elemb (f .number) searchedNumbers) counts list
+      → (f ≡ foundInLabs t e a) × ((after ≡ cond (eqb (f .number) 0) (rowsOfLabs t e a blank) route)
+      × (tries ≡ cond (elemb (f .number) searchedNumbers) (triesOfLabs t e a zeros) list))
+  labs-handed rows counts w k route after p list tries q = (x, (p ∙ rw w, q ∙ rw k))
 
-  pub route-goes : (rows after : List ℕ) → f .number ≡ 0 → rows ≡ rowsOfLabs t e a blank → after ≡ rows
-      → (f ≡ foundInLabs t e a) × (after ≡ cond (eqb (f .number) 0) (rowsOfLabs t e a blank) before)
-  route-goes rows after h w q = (x, rw (eq-eqb (f .number) 0 h) (q ∙ w))
-
--- ---- what was prepared serves: with a route buffer of the right size, what is found from it is what the first broken check finds
-module _ (s e a : List ℕ) (r : ℕ) (room : r ≡ 8192) where
+-- ---- what was prepared serves: with a route buffer and a list of tries of the right size, what is found from it is what the first broken check finds
+module _ (s e a : List ℕ) (r n : ℕ) (room : r ≡ 8192) (slots : n ≡ 1024) where
   abbrev c : Call
-  c = call s e a r
+  c = call s e a r n
 
   abbrev early : Finding
   early = firstBroken (settingsGroup s ++ exerciseGroup e)
@@ -236,7 +252,7 @@ module _ (s e a : List ℕ) (r : ℕ) (room : r ≡ 8192) where
   later = then (firstBroken (answerGroup e a)) (then (firstBroken (cellGroup e)) (firstBroken (placeGroup e a)))
 
   to-51-are : firstBroken (checksTo51 c) ≡ then early later
-  to-51-are = to-51-finds c ∙ rw (eq-eqb r 8192 room)
+  to-51-are = to-51-finds c ∙ rw (eq-eqb r 8192 room, eq-eqb n 1024 slots)
 
   fixed-are : early .number ≡ 0 → firstBroken ((settingsGroup s ++ exerciseGroup e) ++ cellGroup e) ≡ firstBroken (cellGroup e)
   fixed-are h = fixed-finds s e ∙ rw (eq-eqb (early .number) 0 h)
@@ -276,6 +292,11 @@ module _ (s e a : List ℕ) (r : ℕ) (room : r ≡ 8192) where
     unfolding foundInLabs
     labs-found = labs-are c sound fits (eightRows (tableOf s)) served
 
+    tries-found : elemb (firstBroken (labGroup c) .number) searchedNumbers ≡ true
+        → triesOfLabs (eightRows (tableOf s)) e a zeros ≡ map (λ l. cond (ltb (firstBroken (labGroup c) .lab) l) 0 (labTries (tableOf s) (labCells c l))) (below 1024)
+    unfolding triesOfLabs
+    tries-found kept = tries-are-told c sound fits (eightRows (tableOf s)) served kept
+
     module _ (kept : firstBroken (labGroup c) .number ≡ 0) where
       abbrev lists : Links
       lists = linked a (cellCount e)
@@ -306,16 +327,30 @@ module _ (s e a : List ℕ) (r : ℕ) (room : r ≡ 8192) where
       sym (found-all ∙ rw found-to-51 (by-test (eqb (firstBroken (checksTo51 c) .number) 0)
       (λ b. rw (b, labs-found (eqb-true (firstBroken (checksTo51 c) .number) 0 b))) (λ b. rw b)))
 
-  -- the judge's own call
-  module _ (before : List ℕ) (f : Finding) (x : f ≡ foundTo51 (preparedFor s e) (driversFor s e) e a) where
+  -- up to 51 nothing is searched
+  none-searched : (firstBroken (checksTo51 c) .number ≡ 0 → ⊥) → elemb (firstBroken (checksTo51 c) .number) searchedNumbers ≡ false
+  none-searched =
+      found (λ f. (f .number ≡ 0 → ⊥) → elemb (f .number) searchedNumbers ≡ false) (λ h. absurd (h refl)) (checksTo51 c)
+      (every-weaker (In numbersTo51) _ (λ k m h. all-give (λ i. elemb i searchedNumbers) false numbersTo51 refl (k .finding .number) m) (checksTo51 c) (to-51-known c))
+
+  -- the judge's own call: what is found, the route buffer and the list of tries after it
+  abbrev Handed : Finding → List ℕ → List ℕ → List ℕ → List ℕ → Type 0
+  Handed f route after list tries =
+      (f ≡ firstBroken (checks c)) × ((after ≡ cond (eqb (f .number) 0) (routeBytes c) route)
+      × (tries ≡ cond (elemb (f .number) searchedNumbers) (map (triesOf c) (below 1024)) list))
+
+  module _ (route list : List ℕ) (f : Finding) (x : f ≡ foundTo51 (preparedFor s e) (driversFor s e) e a) where
     to-51 : f ≡ firstBroken (checksTo51 c)
     to-51 = x ∙ found-to-51
 
     whole : firstBroken (checks c) ≡ then f (firstBroken (labGroup c))
     whole = found-all ∙ rw (← to-51)
 
-    pub finding-stays : (f .number ≡ 0 → ⊥) → (f ≡ firstBroken (checks c)) × (before ≡ cond (eqb (f .number) 0) (routeBytes c) before)
-    finding-stays h = (sym (whole ∙ rw (ne-eqb (f .number) 0 h)), rw (ne-eqb (f .number) 0 h))
+    pub finding-stays : (f .number ≡ 0 → ⊥) → Handed f route route list list
+    finding-stays h = (
+      sym (whole ∙ rw (ne-eqb (f .number) 0 h)),
+      (rw (ne-eqb (f .number) 0 h), rw (to-51, none-searched (λ z. h (ap numberIn to-51 ∙ z)))),
+    )
 
     module _ (none : f .number ≡ 0) (t : Table) (rows : t ≡ eightRows (tableOf s)) (g : Finding) (y : g ≡ foundInLabs t e a) where
       passed : firstBroken (checksTo51 c) .number ≡ 0
@@ -324,22 +359,46 @@ module _ (s e a : List ℕ) (r : ℕ) (room : r ≡ 8192) where
       in-labs : g ≡ firstBroken (labGroup c)
       in-labs = y ∙ rw rows (labs-found passed)
 
-      pub finding-goes : (after : List ℕ) → after ≡ cond (eqb (g .number) 0) (rowsOfLabs t e a blank) before
-          → (g ≡ firstBroken (checks c)) × (after ≡ cond (eqb (g .number) 0) (routeBytes c) before)
-      finding-goes after w = (
-        sym (whole ∙ rw (eq-eqb (f .number) 0 none) (sym in-labs)),
-        w ∙ by-test (eqb (g .number) 0)
-            (λ b. rw b (rw rows (rows-found passed (ap numberIn (sym in-labs) ∙ eqb-true (g .number) 0 b)))) (λ b. rw b),
+      all-in-labs : firstBroken (checks c) ≡ g
+      all-in-labs = whole ∙ rw (eq-eqb (f .number) 0 none) (sym in-labs)
+
+      route-found : eqb (g .number) 0 ≡ true → rowsOfLabs t e a blank ≡ routeBytes c
+      route-found b = rw rows (rows-found passed (ap numberIn (sym in-labs) ∙ eqb-true (g .number) 0 b))
+
+      list-found : elemb (g .number) searchedNumbers ≡ true → triesOfLabs t e a zeros ≡ map (triesOf c) (below 1024)
+      unfolding triesOf judged verdictOf
+      list-found b = rw (rows, tries-found passed (rw in-labs at b), all-in-labs, in-labs) refl
+
+      pub finding-goes : (after tries : List ℕ) → after ≡ cond (eqb (g .number) 0) (rowsOfLabs t e a blank) route
+          → tries ≡ cond (elemb (g .number) searchedNumbers) (triesOfLabs t e a zeros) list → Handed g route after list tries
+      finding-goes after tries w k = (
+        sym all-in-labs,
+        (
+          w ∙ by-test (eqb (g .number) 0) (λ b. rw b (route-found b)) (λ b. rw b),
+          k ∙ by-test (elemb (g .number) searchedNumbers) (λ b. rw b (list-found b)) (λ b. rw b),
+        ),
       )
 
 -- ---- the whole verdict
-module _ (c : Call) (before : List ℕ) (v : Verdict) where
-  -- 1
-  pub judge-room : (c .room ≡ 8192 → ⊥) → v ≡ verdictOf (c .exercise) (c .answer) (finding 1 NONE NONE) → (v ≡ judged c) × (before ≡ routed c before)
-  unfolding judged routed verdictOf checks checksTo51 roomChecks
-  judge-room h q = (rw (ne-eqb (c .room) 8192 h) q, rw (ne-eqb (c .room) 8192 h))
+module _ (c : Call) (before list : List ℕ) (v : Verdict) where
+  abbrev Said : List ℕ → List ℕ → Type 0
+  Said after tries = (v ≡ judged c) × ((after ≡ routed c before) × (tries ≡ tried c list))
 
-  pub judge-done : (f : Finding) (after : List ℕ) → f ≡ firstBroken (checks c) → after ≡ cond (eqb (f .number) 0) (routeBytes c) before
-      → v ≡ verdictOf (c .exercise) (c .answer) f → (v ≡ judged c) × (after ≡ routed c before)
-  unfolding judged routed verdictOf
-  judge-done f after x w q = (rw (← x) q, rw (← x) w)
+  -- 1
+  pub judge-room : (c .room ≡ 8192 → ⊥) → v ≡ verdictOf (c .exercise) (c .answer) (finding 1 NONE NONE) → Said before list
+  unfolding judged routed tried verdictOf checks checksTo51 roomChecks
+  judge-room h q = (rw (ne-eqb (c .room) 8192 h) q, (rw (ne-eqb (c .room) 8192 h), rw (ne-eqb (c .room) 8192 h)))
+
+  -- 3
+  pub judge-slots : c .room ≡ 8192 → (c .slots ≡ 1024 → ⊥) → v ≡ verdictOf (c .exercise) (c .answer) (finding 3 NONE NONE) → Said before list
+  unfolding judged routed tried verdictOf checks checksTo51 roomChecks
+  judge-slots r h q = (
+    rw (eq-eqb (c .room) 8192 r, ne-eqb (c .slots) 1024 h) q,
+    (rw (eq-eqb (c .room) 8192 r, ne-eqb (c .slots) 1024 h), rw (eq-eqb (c .room) 8192 r, ne-eqb (c .slots) 1024 h)),
+  )
+
+  pub judge-done : (f : Finding) (after tries : List ℕ) → f ≡ firstBroken (checks c) → after ≡ cond (eqb (f .number) 0) (routeBytes c) before
+      → tries ≡ cond (elemb (f .number) searchedNumbers) (map (triesOf c) (below 1024)) list
+      → v ≡ verdictOf (c .exercise) (c .answer) f → Said after tries
+  unfolding judged routed tried verdictOf
+  judge-done f after tries x w k q = (rw (← x) q, (rw (← x) w, rw (← x) k))

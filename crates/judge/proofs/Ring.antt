@@ -65,7 +65,7 @@ module _ (c : Call) (ring : ℕ → ℕ) (k : ℕ) (s : Ring (c .exercise) ring 
   found-first =
       let fifty = perCell 50 (placeTaken e a) (cellNumbers e) in
       let last = perCell 51 (carryNotNext e a) (cellNumbers e) in
-      skip-held (roomChecks (c .room)) (settingsGroup (c .settings) ++ (exerciseGroup e ++ (answerGroup e a ++ (cellGroup e ++ (fifty ++ last))))) (h .room)
+      skip-held (roomChecks (c .room) (c .slots)) (settingsGroup (c .settings) ++ (exerciseGroup e ++ (answerGroup e a ++ (cellGroup e ++ (fifty ++ last))))) (h .room)
       ∙ skip-held (settingsGroup (c .settings)) (exerciseGroup e ++ (answerGroup e a ++ (cellGroup e ++ (fifty ++ last)))) (h .settings)
       ∙ skip-held (exerciseGroup e) (answerGroup e a ++ (cellGroup e ++ (fifty ++ last))) (h .exercise)
       ∙ skip-held (answerGroup e a) (cellGroup e ++ (fifty ++ last)) (h .answer)

@@ -28,7 +28,7 @@ use Rattle.judge.specs.declared.Finding.{Finding}
 use Rattle.judge.specs.declared.Part.{Part}
 use Rattle.judge.specs.declared.Verdict.{Verdict}
 use Rattle.judge.specs.Call.{call}
-use Rattle.judge.specs.Judge.{finding, legal, ofAnswer, exerciseGroup, answerGroup, firstBroken, firstOr, lowestIn, culpritAt, culpritOf, judged, bytesOf, addressOf, routed}
+use Rattle.judge.specs.Judge.{finding, legal, ofAnswer, exerciseGroup, answerGroup, firstBroken, firstOr, lowestIn, culpritAt, culpritOf, judged, bytesOf, addressOf, routed, tried}
 use Rattle.judge.specs.Numbers.{faultOf}
 use Rattle.judge.specs.Culprit.{Inside, CulpritLaw}
 use Rattle.judge.specs.passes.Stages.{numberedAs, numbered, placedBy}
@@ -177,7 +177,7 @@ culprit-is e a f k m h q p = p ∙ ap (culpritAt e a f) (sym q ∙ h)
 
 pub ruleset culprit-steps = (from-start, place-lowest, culprit-is)
 
--- ---- the verdict handed out: the culprit's bytes and where they begin, the route and the four numbers
+-- ---- the verdict handed out: the culprit's bytes and where they begin, the route, the tries and the four numbers
 -- a part that lies inside its sheet begins at its start
 begins-inside : (e a : List ℕ) (at-e at-a : ℕ × ℕ) (p : Part) → Inside e a p
     → cond (p .«of_answer») (beginsAt at-a (min (p .start) (length a))) (beginsAt at-e (min (p .start) (length e))) ≡ addressOf at-e at-a p
@@ -187,15 +187,15 @@ begins-inside e a at-e at-a p h =
     (λ b. let low : min (p .start) (length a) ≡ p .start = omega (arith, rw b at h) in rw (b, low))
     (λ b. let low : min (p .start) (length e) ≡ p .start = omega (arith, rw b at h) in rw (b, low))
 
-pub handed-out : (s e a before after : List ℕ) (v : Verdict) (part : List ℕ) (at-e at-a at : ℕ × ℕ) (number cell lab : ℕ)
-    → let c = call s e a (length before) in
-    v ≡ judged c → after ≡ routed c before → part ≡ bytesOf e a (v .culprit)
+pub handed-out : (s e a before after list tries : List ℕ) (v : Verdict) (part : List ℕ) (at-e at-a at : ℕ × ℕ) (number cell lab : ℕ)
+    → let c = call s e a (length before) (length list) in
+    v ≡ judged c → after ≡ routed c before → tries ≡ tried c list → part ≡ bytesOf e a (v .culprit)
     → at ≡ cond (v .culprit .«of_answer») (beginsAt at-a (min (v .culprit .start) (length a))) (beginsAt at-e (min (v .culprit .start) (length e)))
     → number ≡ v .number → cell ≡ v .cell → lab ≡ v .lab
     → (part ≡ bytesOf e a (judged c .culprit))
     × ((at ≡ addressOf at-e at-a (judged c .culprit))
-    × ((after ≡ routed c before) × (number ∷ cell ∷ lab ∷ v .apprentice ∷ [] ≡ numbersOf (judged c))))
+    × ((after ≡ routed c before) × ((tries ≡ tried c list) × (number ∷ cell ∷ lab ∷ v .apprentice ∷ [] ≡ numbersOf (judged c)))))
 unfolding CulpritLaw
-handed-out s e a before after v part at-e at-a at number cell lab x y p o n m l =
-    let inside : Inside e a (v .culprit) = rw x (culprit-inside (call s e a (length before))) in
-    (p ∙ rw x, (o ∙ begins-inside e a at-e at-a (v .culprit) inside ∙ rw x, (y, rw (n, m, l, x))))
+handed-out s e a before after list tries v part at-e at-a at number cell lab x y k p o n m l =
+    let inside : Inside e a (v .culprit) = rw x (culprit-inside (call s e a (length before) (length list))) in
+    (p ∙ rw x, (o ∙ begins-inside e a at-e at-a (v .culprit) inside ∙ rw x, (y, (k, rw (n, m, l, x)))))

@@ -1,5 +1,6 @@
 -- The three demands, as statements about every call. A reader needs this file, Call, Judge, and the definitions that Judge names: nothing of any
--- proof. What is said of the route buffer is said of any `before`, so of one of the call's room. Assumes nothing.
+-- proof. What is said of the route buffer and of the list of tries is said of any `before`, so of one of the
+-- call's length. Assumes nothing.
 use Prim.Native.Nat.{ℕ, _+_, _*_, _<_, min}
 use mathlib.Core.Path.{_≡_}
 use mathlib.Core.Logic.{_↔_, _⊎_}
@@ -16,12 +17,12 @@ use Rattle.route.specs.Route.{byteOfNeed}
 use Rattle.lab_rules.specs.Rules.{needs, labRules}
 use Rattle.judge.specs.declared.Verdict.{Verdict}
 use Rattle.judge.specs.Call.{Call, inForce}
-use Rattle.judge.specs.Judge.{Check, checks, checksTo51, ofLab, labCells, occupied, ofExercise, ofAnswer, judged, routed, verdictOf}
+use Rattle.judge.specs.Judge.{Check, checks, checksTo51, ofLab, labCells, occupied, ofExercise, ofAnswer, judged, routed, tried, verdictOf}
 
--- the numbers that a judgement can give: document 01's, and 70 to 75 of M-102
+-- the numbers that a judgement can give: document 01's, 70 to 75 of M-102 and 3 of M-106
 abbrev pub numbers : List ℕ
 numbers =
-    0 ∷ 1 ∷ 10 ∷ 11 ∷ 12 ∷ 13 ∷ 14 ∷ 15 ∷ 16 ∷ 20 ∷ 21 ∷ 22 ∷ 23 ∷ 24 ∷ 25 ∷ 26
+    0 ∷ 1 ∷ 3 ∷ 10 ∷ 11 ∷ 12 ∷ 13 ∷ 14 ∷ 15 ∷ 16 ∷ 20 ∷ 21 ∷ 22 ∷ 23 ∷ 24 ∷ 25 ∷ 26
     ∷ 30 ∷ 31 ∷ 32 ∷ 33 ∷ 34 ∷ 35 ∷ 40 ∷ 41 ∷ 42 ∷ 43 ∷ 44 ∷ 50 ∷ 51 ∷ 60 ∷ 61 ∷ 62 ∷ 63 ∷ 64 ∷ 65
     ∷ 70 ∷ 71 ∷ 72 ∷ 73 ∷ 74 ∷ 75 ∷ []
 
@@ -37,8 +38,8 @@ pub record LowestCell (c : Call) (l i : ℕ) : Type 0 where
 
 -- "a refusal names its culprit": for each number which part of which sheet that is, with document 01's numbers written out
 pub record NamesCulprit (c : Call) (v : Verdict) : Type 0 where
-  -- "for 0 and 1 the empty part at the answer's end"; 70 to 75 with "the culprit of 1"
-  pub call : OneOf v (0 ∷ 1 ∷ 70 ∷ 71 ∷ 72 ∷ 73 ∷ 74 ∷ 75 ∷ []) → v .culprit ≡ ofAnswer (length (c .answer)) 0
+  -- "for 0 and 1 the empty part at the answer's end"; 70 to 75 with "the culprit of 1"; 3 "as for 1"
+  pub call : OneOf v (0 ∷ 1 ∷ 3 ∷ 70 ∷ 71 ∷ 72 ∷ 73 ∷ 74 ∷ 75 ∷ []) → v .culprit ≡ ofAnswer (length (c .answer)) 0
   -- "for 10 to 14 the first 9 bytes of the exercise (all of them if fewer)"
   pub exercise-head : OneOf v (10 ∷ 11 ∷ 12 ∷ 13 ∷ 14 ∷ []) → v .culprit ≡ ofExercise 0 (min 9 (length (c .exercise)))
   -- "for 15, 16 and 30 to 44 that cell's exercise record"
@@ -65,13 +66,14 @@ pub record FirstBroken (k : Check) (ks : List Check) : Type 0 where
   pub broken : k .broken ≡ true
 
 -- DEMAND 1. "exactly one numbered verdict"; "a refusal names its culprit"; "a refusal .. leaves the route buffer untouched"; "the apprentice
--- number comes from the answer sheet only", "0 for numbers 1 to 23" and 70 to 75
+-- number comes from the answer sheet only", "0 for numbers 1 to 23" and 70 to 75; a refusal other than 65 leaves the list of tries untouched
 pub record Demand1 : Type 0 where
   pub one-number : (c : Call) → elemb (judged c .number) numbers ≡ true
   pub names-culprit : (c : Call) → NamesCulprit c (judged c)
   pub untouched : (c : Call) (before : List ℕ) → (judged c .number ≡ 0 → ⊥) → routed c before ≡ before
+  pub tries-untouched : (c : Call) (before : List ℕ) → elemb (judged c .number) (0 ∷ 65 ∷ []) ≡ false → tried c before ≡ before
   pub apprentice-only : (c : Call) → judged c .apprentice
-      ≡ cond (elemb (judged c .number) (1 ∷ 10 ∷ 11 ∷ 12 ∷ 13 ∷ 14 ∷ 15 ∷ 16 ∷ 20 ∷ 21 ∷ 22 ∷ 23 ∷ 70 ∷ 71 ∷ 72 ∷ 73 ∷ 74 ∷ 75 ∷ [])) 0
+      ≡ cond (elemb (judged c .number) (1 ∷ 3 ∷ 10 ∷ 11 ∷ 12 ∷ 13 ∷ 14 ∷ 15 ∷ 16 ∷ 20 ∷ 21 ∷ 22 ∷ 23 ∷ 70 ∷ 71 ∷ 72 ∷ 73 ∷ 74 ∷ 75 ∷ [])) 0
       (apprentice (c .answer))
 
 -- DEMAND 2. "The verdict is legal exactly if every rule in document 01 holds; otherwise it is the first broken one, in 01's order"

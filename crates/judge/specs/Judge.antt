@@ -1,12 +1,13 @@
--- Document 01, "Verdict numbers, in the order of checking": the checks as a list, the verdict as its first broken check, and the route buffer.
+-- Document 01, "Verdict numbers, in the order of checking": the checks as a list, the verdict as its first broken check, the route buffer
+-- and the list of tries.
 -- `c` is the call; a definition that reads less of it takes what it reads: `s` the settings, `e` the exercise, `a` the answer, `r` the route
--- buffer's length.
+-- buffer's length, `n` that of the list of tries.
 -- Assumes nothing.
 use Prim.Native.Nat.{ℕ, min}
 use mathlib.Core.Bool.{Bool, true, false, cond, not, _&&_}
 use mathlib.Core.List.{List, [], _∷_, _++_, map}
 use lib.ListN.{length}
-use lib.Dec.{eqb}
+use lib.Dec.{eqb, ltb}
 use Rattle.sheet.specs.Lists.{concatMap, anyb, elemb, below}
 use Rattle.sheet.specs.Checks as sheet
 use Rattle.sheet.specs.Bytes.{partAt, beginsAt}
@@ -15,7 +16,7 @@ use Rattle.answer.specs.Answer.{apprentice, placeCount, answerChecks, wrongAnsw
 use Rattle.exercise.specs.declared.Record.{Record}
 use Rattle.exercise.specs.declared.Record.the-variants.{Combinational, Register, Malformed}
 use Rattle.settings.specs.Settings.{settingsChecks}
-use Rattle.lab_rules.specs.Rules.{labChecks, routeOf}
+use Rattle.lab_rules.specs.Rules.{labChecks, routeOf, labTries}
 use Rattle.tables.specs.Records.{cell, cellNumbers, malformed, doubleDriver}
 use Rattle.netlist.specs.Cells.{feeds, cellChecks}
 use Rattle.sheet.specs.Checks.{NONE}
@@ -27,7 +28,7 @@ use Rattle.judge.specs.declared.Finding.{Finding}
 use Rattle.judge.specs.declared.Part.{Part}
 use Rattle.judge.specs.declared.Verdict.{Verdict}
 use Rattle.judge.specs.Call.{Call, inForce}
-use Rattle.judge.specs.Numbers.{namelessNumbers, faultOf}
+use Rattle.judge.specs.Numbers.{namelessNumbers, searchedNumbers, faultOf}
 
 -- what a verdict says first: the number, the cell, the LAB, NONE ("65,535") "where there is none"
 abbrev pub finding : ℕ → ℕ → ℕ → Finding
@@ -83,9 +84,9 @@ occupied c l = anyb (λ i. eqb (labAt (c .answer) i) l) (cellNumbers (c .exercis
 
 -- ---- the order of checking, in the groups of document 01's table
 
--- 1
-unfoldable pub roomChecks : ℕ → List Check
-roomChecks r = check 1 (not (eqb r 8192)) ∷ []
+-- 1; M-106: "3 when the list isn't 1,024 long, right after 1"
+unfoldable pub roomChecks : ℕ → ℕ → List Check
+roomChecks r n = check 1 (not (eqb r 8192)) ∷ check 3 (not (eqb n 1024)) ∷ []
 
 -- 70 to 75: "all after 1 and before 10"
 unfoldable pub settingsGroup : List ℕ → List Check
@@ -119,9 +120,9 @@ labGroup c = concatMap (λ l. ofLab l (labChecks (inForce c) (labCells c l))) (b
 unfoldable pub sheetChecks : List ℕ → List ℕ → List Check
 sheetChecks e a = exerciseGroup e ++ (answerGroup e a ++ (cellGroup e ++ placeGroup e a))
 
--- the "rules up to 51": "with 70 to 75 .. among" them
+-- the "rules up to 51": "with 70 to 75 .. among" them, and 3
 unfoldable pub checksTo51 : Call → List Check
-checksTo51 c = roomChecks (c .room) ++ (settingsGroup (c .settings) ++ sheetChecks (c .exercise) (c .answer))
+checksTo51 c = roomChecks (c .room) (c .slots) ++ (settingsGroup (c .settings) ++ sheetChecks (c .exercise) (c .answer))
 
 -- ALL CHECKS, IN THE ORDER OF CHECKING
 unfoldable pub checks : Call → List Check
@@ -154,7 +155,7 @@ lowestIn a n l = firstOr NONE (members a n l)
 
 -- "the culprit, a part of whichever of the two lent sheets is at fault"
 abbrev pub culpritAt : List ℕ → List ℕ → Finding → Fault → Part
--- "for 0 and 1 the empty part at the answer's end"; M-102: 70 to 75 with "the culprit of 1"
+-- "for 0 and 1 the empty part at the answer's end"; M-102: 70 to 75 with "the culprit of 1"; M-106: 3, "culprit as for 1"
 culpritAt e a f fault.Call = ofAnswer (length a) 0
 -- "for 10 to 14 the first 9 bytes of the exercise (all of them if fewer)"
 culpritAt e a f fault.ExerciseHead = ofExercise 0 (min 9 (length e))
@@ -198,6 +199,14 @@ routeBytes c = concatMap (λ l. routeOf (inForce c) (labCells c l)) (below 1024)
 -- THE ROUTE BUFFER AT EXIT of a call that was lent `before`: on a refusal as it was, else the route bytes
 unfoldable pub routed : Call → List ℕ → List ℕ
 routed c before = cond (eqb (judged c .number) 0) (routeBytes c) before
+
+-- M-106: the tries of LAB l; LABs "above a refused one, get 0", and "empty LABs" have no needs
+unfoldable pub triesOf : Call → ℕ → ℕ
+triesOf c l = cond (ltb (judged c .lab) l) 0 (labTries (inForce c) (labCells c l))
+
+-- THE LIST OF TRIES AT EXIT of a call that was lent `before`: "written on verdicts 0 and 65 and otherwise unchanged"
+unfoldable pub tried : Call → List ℕ → List ℕ
+tried c before = cond (elemb (judged c .number) searchedNumbers) (map (triesOf c) (below 1024)) before
 
 -- the four numbers of a verdict
 abbrev pub numbersOf : Verdict → List ℕ

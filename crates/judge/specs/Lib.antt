@@ -2,6 +2,7 @@ pub mod Call
 pub mod Numbers
 pub mod Judge
 pub mod Demands
+pub mod Tried
 pub mod Culprit
 pub mod Ring
 pub mod AsBefore

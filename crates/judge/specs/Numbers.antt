@@ -1,4 +1,4 @@
--- What a verdict number means: the numbers of document 01 and M-102 by where the fault lies, and those that name no apprentice. A list says which
+-- What a verdict number means: the numbers of document 01, M-102 and M-106 by where the fault lies, and those that name no apprentice. A list says which
 -- numbers there are, not the order of checking. Assumes nothing.
 use Prim.Native.Nat.{ℕ}
 use mathlib.Core.Bool.{cond}
@@ -7,9 +7,9 @@ use Rattle.sheet.specs.Lists.{elemb}
 use Rattle.judge.specs.declared.Fault.{Fault}
 use Rattle.judge.specs.declared.Fault.the-variants.{Call, ExerciseHead, Record, AnswerHead, Place, Lab}
 
--- the route buffer
+-- the route buffer, and M-106's list of tries
 abbrev pub callNumbers : List ℕ
-callNumbers = 1 ∷ []
+callNumbers = 1 ∷ 3 ∷ []
 
 -- M-102, the settings sheet
 abbrev pub settingsNumbers : List ℕ
@@ -35,7 +35,7 @@ placeNumbers = 26 ∷ 50 ∷ 51 ∷ []
 abbrev pub labNumbers : List ℕ
 labNumbers = 60 ∷ 61 ∷ 62 ∷ 63 ∷ 64 ∷ 65 ∷ []
 
--- "the judge's numbers 1 to 51", with 70 to 75 among them
+-- "the judge's numbers 1 to 51", with 3 and 70 to 75 among them
 abbrev pub numbersTo51 : List ℕ
 numbersTo51 = callNumbers ++ (settingsNumbers ++ (exerciseHeadNumbers ++ (recordNumbers ++ (answerHeadNumbers ++ placeNumbers))))
 
@@ -45,9 +45,9 @@ refusalNumbers = numbersTo51 ++ labNumbers
 
 -- "the apprentice: 0 for numbers 1 to 23", and for 70 to 75
 abbrev pub namelessNumbers : List ℕ
-namelessNumbers = 1 ∷ 10 ∷ 11 ∷ 12 ∷ 13 ∷ 14 ∷ 15 ∷ 16 ∷ 20 ∷ 21 ∷ 22 ∷ 23 ∷ 70 ∷ 71 ∷ 72 ∷ 73 ∷ 74 ∷ 75 ∷ []
+namelessNumbers = 1 ∷ 3 ∷ 10 ∷ 11 ∷ 12 ∷ 13 ∷ 14 ∷ 15 ∷ 16 ∷ 20 ∷ 21 ∷ 22 ∷ 23 ∷ 70 ∷ 71 ∷ 72 ∷ 73 ∷ 74 ∷ 75 ∷ []
 
--- where the fault of a number lies: for 0, 1 and 70 to 75 in neither exercise nor answer
+-- where the fault of a number lies: for 0, 1, 3 and 70 to 75 in neither exercise nor answer
 unfoldable pub faultOf : ℕ → Fault
 faultOf n =
     cond (elemb n exerciseHeadNumbers) ExerciseHead
@@ -56,3 +56,7 @@ faultOf n =
     (cond (elemb n placeNumbers) Place
     (cond (elemb n labNumbers) Lab
     Call))))
+
+-- M-106: the list of tries is "written on verdicts 0 and 65"
+abbrev pub searchedNumbers : List ℕ
+searchedNumbers = 0 ∷ 65 ∷ []

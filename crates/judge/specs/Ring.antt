@@ -27,7 +27,7 @@ pub record Ring (e : List ℕ) (ring : ℕ → ℕ) (k : ℕ) : Type 0 where
 
 -- all that is checked before 51 holds
 pub record HoldsTo50 (c : Call) : Type 0 where
-  pub room : AllHold (roomChecks (c .room))
+  pub room : AllHold (roomChecks (c .room) (c .slots))
   pub settings : AllHold (settingsGroup (c .settings))
   pub exercise : AllHold (exerciseGroup (c .exercise))
   pub answer : AllHold (answerGroup (c .exercise) (c .answer))

@@ -3,26 +3,29 @@ use sheet::CellNumber;
 pub use sheet::NONE;
 ghost use mathlib.Core.Path.{_≡_};
 ghost use mathlib.Core.Bool.{cond};
-ghost use mathlib.Core.List.{_++_};
+ghost use mathlib.Core.List.{_++_, map};
 ghost use Prim.Native.Nat.{min};
 ghost use lib.ListN.{length, replicate};
 ghost use lib.Dec.{eqb, ltb};
-ghost use Rattle.sheet.specs.Lists.{elemb};
+ghost use Rattle.sheet.specs.Lists.{elemb, below};
 ghost use Rattle.sheet.specs.Bytes.{beginsAt};
 ghost use Rattle.exercise.specs.Exercise.{cellCount, recordStart};
 ghost use Rattle.exercise.specs.passes.Known.{knownAt};
 ghost use Rattle.answer.specs.Answer.{placeStart};
 ghost use Rattle.judge.specs.Call.{call};
-ghost use Rattle.judge.specs.Judge.{finding, legal, ofExercise, ofAnswer, settingsGroup, exerciseGroup, answerGroup, cellGroup, checks, firstBroken, apprenticeOf, lowestIn, culpritOf, verdictOf, judged, bytesOf, addressOf, routeBytes, routed, numbersOf};
-ghost use Rattle.judge.specs.Numbers.{faultOf};
+ghost use Rattle.judge.specs.Judge.{finding, legal, ofExercise, ofAnswer, settingsGroup, exerciseGroup, answerGroup, cellGroup, checks, firstBroken, apprenticeOf, lowestIn, culpritOf, verdictOf, judged, bytesOf, addressOf, routeBytes, routed, triesOf, tried, numbersOf};
+ghost use Rattle.judge.specs.Numbers.{faultOf, searchedNumbers};
 ghost use Rattle.judge.specs.passes.Stages.{numbered, placedBy};
-ghost use Rattle.judge.specs.passes.Preparing.{then, preparedFor, driversFor, foundTo51, foundInLabs, rowsOfLabs, foundFrom};
+ghost use Rattle.judge.specs.passes.Preparing.{then, preparedFor, driversFor, foundTo51, foundInLabs, rowsOfLabs, triesOfLabs, foundFrom};
 ghost use Rattle.tables.specs.passes.Tables.{driversBelow};
 ghost use Rattle.sheet.specs.Checks.{NONE};
 ghost use Rattle.netlist.specs.passes.Numbers.{numberAt};
 
 // The route buffer's length: eight bytes for each of 1,024 LABs.
 pub const ROUTE_SIZE: usize = 8192;
+
+// The length of the list of tries: a number for each of 1,024 LABs.
+pub const TRIES_SIZE: usize = 1024;
 
 // Where the fault of a number lies: in the call or its settings sheet (or there is none), or in that part of exercise or answer.
 pub enum Fault {
@@ -50,8 +53,9 @@ const PLACE_NUMBERS: [u8; 3] = [26, 50, 51];
 const LAB_NUMBERS: [u8; 6] = [60, 61, 62, 63, 64, 65];
 
 // Those that name no apprentice.
-const NAMELESS_NUMBERS: [u8; 18] = [
+const NAMELESS_NUMBERS: [u8; 19] = [
     1,
+    3,
     10,
     11,
     12,
@@ -70,6 +74,9 @@ const NAMELESS_NUMBERS: [u8; 18] = [
     74,
     75,
 ];
+
+// Those on which the list of tries is written.
+const SEARCHED_NUMBERS: [u8; 2] = [0, 65];
 
 // What a stage finds: a number of document 01, or 0, with the cell and the LAB, or 65,535.
 pub struct Finding {
@@ -297,16 +304,23 @@ fn finding_alone(settings: &[u8], exercise: &[u8], answer: &[u8]) -> Finding
     placed_finding(fixed, exercise, &drivers, answer)
 }
 
-// 60 to 65. The route bytes of the occupied LABs below the first broken one are put into the rows.
-fn lab_finding(table: EntryTable, exercise: &[u8], answer: &[u8], rows: &mut [u8; 8192]) -> Finding
+// 60 to 65. The route bytes of the occupied LABs below the first broken one are put into the rows, their tries and its own into the list.
+fn lab_finding(
+    table: EntryTable,
+    exercise: &[u8],
+    answer: &[u8],
+    rows: &mut [u8; 8192],
+    tries: &mut [u32; 1024],
+) -> Finding
     ensures found { λ r. ⌜ r ≡ foundInLabs table (now (exercise .entry)) (now (answer .entry)) ⌝ }
     ensures written { λ _. ⌜ now (rows .exit) ≡ rowsOfLabs table (now (exercise .entry)) (now (answer .entry)) (now (rows .entry)) ⌝ }
+    ensures counted { λ _. ⌜ now (tries .exit) ≡ triesOfLabs table (now (exercise .entry)) (now (answer .entry)) (now (tries .entry)) ⌝ }
 {
     let cells = exercise::cell_count(exercise);
     let mut first = [NONE; 1024];
     let mut next = [NONE; 512];
     lab_pass::link_cells(answer, cells, &mut first, &mut next);
-    let found = lab_pass::route_labs(table, exercise, &first, &next, rows);
+    let found = lab_pass::route_labs(table, exercise, &first, &next, rows, tries);
     if found.lab < lab_pass::LABS {
         return Finding {
             number: found.number,
@@ -317,7 +331,7 @@ fn lab_finding(table: EntryTable, exercise: &[u8], answer: &[u8], rows: &mut [u8
     plain(0)
 }
 
-// What the judge finds in an answer, from the entry table and what was prepared for its exercise. No route is written.
+// What the judge finds in an answer, from the entry table and what was prepared for its exercise. No route and no tries are written.
 pub fn judge_prepared(
     table: EntryTable,
     prepared: Prepared,
@@ -332,7 +346,8 @@ pub fn judge_prepared(
         return f;
     }
     let mut rows = [255u8; 8192];
-    lab_finding(table, exercise, answer, &mut rows)
+    let mut tries = [0u32; 1024];
+    lab_finding(table, exercise, answer, &mut rows, &mut tries)
 }
 
 // Copies the rows into the route buffer.
@@ -347,32 +362,85 @@ fn copy(rows: &[u8], route: &mut [u8])
     }
 }
 
-// 60 to 65; where none is broken, the routes are written.
-fn judge_labs(table: EntryTable, exercise: &[u8], answer: &[u8], route: &mut [u8]) -> Finding
-    requires { ⌜ length (now route) ≡ 8192 ⌝ }
+// Copies the numbers of tries into the lent list.
+fn copy_tries(counts: &[u32], tries: &mut [u32])
+    requires { ⌜ length (now counts) ≡ length (now tries) ⌝ }
+    ensures { λ _. ⌜ now (tries .exit) ≡ now (counts .entry) ⌝ }
+{
+    let mut k = 0;
+    while k < tries.len() {
+        tries[k] = counts[k];
+        k += 1;
+    }
+}
+
+// The routes are written where nothing is broken.
+fn hand_route(number: u8, rows: &[u8], route: &mut [u8])
+    requires { ⌜ length (now rows) ≡ length (now route) ⌝ }
+    ensures { λ _. ⌜ now (route .exit) ≡ cond (eqb number 0) (now (rows .entry)) (now (route .entry)) ⌝ }
+{
+    if number == 0 {
+        copy(rows, route);
+    }
+}
+
+// The tries are written where nothing is broken, or 65.
+fn hand_tries(number: u8, counts: &[u32], tries: &mut [u32])
+    requires { ⌜ length (now counts) ≡ length (now tries) ⌝ }
+    ensures { λ _. ⌜ now (tries .exit) ≡ cond (elemb number searchedNumbers) (now (counts .entry)) (now (tries .entry)) ⌝ }
+{
+    if is_among(number, &SEARCHED_NUMBERS) {
+        copy_tries(counts, tries);
+    }
+}
+
+// 60 to 65, with the routes and the tries.
+fn judge_labs(
+    table: EntryTable,
+    exercise: &[u8],
+    answer: &[u8],
+    route: &mut [u8],
+    tries: &mut [u32],
+) -> Finding
+    requires room { ⌜ length (now route) ≡ 8192 ⌝ }
+    requires slots { ⌜ length (now tries) ≡ 1024 ⌝ }
     ensures found { λ r. ⌜ r ≡ foundInLabs table (now (exercise .entry)) (now (answer .entry)) ⌝ }
     ensures written { λ r. ⌜ now (route .exit) ≡ cond (eqb (r .number) 0) (rowsOfLabs table (now (exercise .entry)) (now (answer .entry)) (replicate 8192 255)) (now (route .entry)) ⌝ }
+    ensures counted { λ r. ⌜ now (tries .exit) ≡ cond (elemb (r .number) searchedNumbers) (triesOfLabs table (now (exercise .entry)) (now (answer .entry)) (replicate 1024 0)) (now (tries .entry)) ⌝ }
 {
     let mut rows = [255u8; 8192];
-    let found = lab_finding(table, exercise, answer, &mut rows);
-    if found.number != 0 {
-        return found;
-    }
-    copy(&rows, route);
+    let mut counts = [0u32; 1024];
+    let found = lab_finding(table, exercise, answer, &mut rows, &mut counts);
+    hand_route(found.number, &rows, route);
+    hand_tries(found.number, &counts, tries);
     found
 }
 
-// What the first broken check finds, with a route buffer of the right size; where none is broken, the routes are written.
-fn finding_of(settings: &[u8], exercise: &[u8], answer: &[u8], route: &mut [u8]) -> Finding
-    requires { ⌜ length (now route) ≡ 8192 ⌝ }
-    ensures found { λ r. ⌜ r ≡ firstBroken (checks (call (now (settings .entry)) (now (exercise .entry)) (now (answer .entry)) (length (now (route .entry))))) ⌝ }
-    ensures written { λ r. ⌜ now (route .exit) ≡ cond (eqb (r .number) 0) (routeBytes (call (now (settings .entry)) (now (exercise .entry)) (now (answer .entry)) (length (now (route .entry))))) (now (route .entry)) ⌝ }
+// What the first broken check finds, with a route buffer and a list of tries of the right size, and what is written to them.
+fn finding_of(
+    settings: &[u8],
+    exercise: &[u8],
+    answer: &[u8],
+    route: &mut [u8],
+    tries: &mut [u32],
+) -> Finding
+    requires room { ⌜ length (now route) ≡ 8192 ⌝ }
+    requires slots { ⌜ length (now tries) ≡ 1024 ⌝ }
+    ensures found { λ r. ⌜ r ≡ firstBroken (checks (call (now (settings .entry)) (now (exercise .entry)) (now (answer .entry)) (length (now (route .entry))) (length (now (tries .entry))))) ⌝ }
+    ensures written { λ r. ⌜ now (route .exit) ≡ cond (eqb (r .number) 0) (routeBytes (call (now (settings .entry)) (now (exercise .entry)) (now (answer .entry)) (length (now (route .entry))) (length (now (tries .entry))))) (now (route .entry)) ⌝ }
+    ensures counted { λ r. ⌜ now (tries .exit) ≡ cond (elemb (r .number) searchedNumbers) (map (triesOf (call (now (settings .entry)) (now (exercise .entry)) (now (answer .entry)) (length (now (route .entry))) (length (now (tries .entry))))) (below 1024)) (now (tries .entry)) ⌝ }
 {
     let f = finding_alone(settings, exercise, answer);
     if f.number != 0 {
         return f;
     }
-    judge_labs(settings::entry_table(settings), exercise, answer, route)
+    judge_labs(
+        settings::entry_table(settings),
+        exercise,
+        answer,
+        route,
+        tries,
+    )
 }
 
 // Whether a number is in a list.
@@ -389,7 +457,7 @@ fn is_among(number: u8, list: &[u8]) -> bool
     false
 }
 
-// The apprentice: 0 for 1 to 23 and 70 to 75, else the answer sheet's.
+// The apprentice: 0 for 1 to 23 (3 is among these) and 70 to 75, else the answer sheet's.
 pub fn apprentice_for(answer: &[u8], number: u8) -> u32
     ensures { λ r. ⌜ r ≡ apprenticeOf (now (answer .entry)) number ⌝ }
 {
@@ -511,15 +579,26 @@ fn verdict_of(exercise: &[u8], answer: &[u8], f: Finding) -> Verdict
     }
 }
 
-// The verdict on exercise and answer on the board of a settings sheet; the routes are written where it is legal, and nothing is touched otherwise.
-pub fn judge_sheets(settings: &[u8], exercise: &[u8], answer: &[u8], route: &mut [u8]) -> Verdict
-    ensures verdict { λ r. ⌜ r ≡ judged (call (now (settings .entry)) (now (exercise .entry)) (now (answer .entry)) (length (now (route .entry)))) ⌝ }
-    ensures routes { λ r. ⌜ now (route .exit) ≡ routed (call (now (settings .entry)) (now (exercise .entry)) (now (answer .entry)) (length (now (route .entry)))) (now (route .entry)) ⌝ }
+// The verdict on exercise and answer on the board of a settings sheet. The routes are written where it is legal, the tries where it is legal or 65, and
+// nothing is touched otherwise.
+pub fn judge_sheets(
+    settings: &[u8],
+    exercise: &[u8],
+    answer: &[u8],
+    route: &mut [u8],
+    tries: &mut [u32],
+) -> Verdict
+    ensures verdict { λ r. ⌜ r ≡ judged (call (now (settings .entry)) (now (exercise .entry)) (now (answer .entry)) (length (now (route .entry))) (length (now (tries .entry)))) ⌝ }
+    ensures routes { λ _. ⌜ now (route .exit) ≡ routed (call (now (settings .entry)) (now (exercise .entry)) (now (answer .entry)) (length (now (route .entry))) (length (now (tries .entry)))) (now (route .entry)) ⌝ }
+    ensures counts { λ _. ⌜ now (tries .exit) ≡ tried (call (now (settings .entry)) (now (exercise .entry)) (now (answer .entry)) (length (now (route .entry))) (length (now (tries .entry)))) (now (tries .entry)) ⌝ }
 {
     if route.len() != ROUTE_SIZE {
         return verdict_of(exercise, answer, plain(1));
     }
-    let f = finding_of(settings, exercise, answer, route);
+    if tries.len() != TRIES_SIZE {
+        return verdict_of(exercise, answer, plain(3));
+    }
+    let f = finding_of(settings, exercise, answer, route, tries);
     verdict_of(exercise, answer, f)
 }
 
@@ -549,20 +628,22 @@ pub fn wide16(n: u16) -> u32
     n as u32
 }
 
-// The judge: hands back the culprit, and writes number, cell, LAB and apprentice.
+// The judge: hands back the culprit, and writes number, cell, LAB and apprentice, the routes and the tries.
 pub fn judge<'a>(
     settings: &[u8],
     exercise: &'a [u8],
     answer: &'a [u8],
     route: &mut [u8],
+    tries: &mut [u32],
     numbers: &mut [u32; 4],
 ) -> &'a [u8]
-    ensures bytes { λ r. ⌜ now r ≡ bytesOf (now (exercise .entry)) (now (answer .entry)) (judged (call (now (settings .entry)) (now (exercise .entry)) (now (answer .entry)) (length (now (route .entry)))) .culprit) ⌝ }
-    ensures place { λ r. ⌜ r .ptr ≡ addressOf (exercise .entry .ptr) (answer .entry .ptr) (judged (call (now (settings .entry)) (now (exercise .entry)) (now (answer .entry)) (length (now (route .entry)))) .culprit) ⌝ }
-    ensures routes { λ r. ⌜ now (route .exit) ≡ routed (call (now (settings .entry)) (now (exercise .entry)) (now (answer .entry)) (length (now (route .entry)))) (now (route .entry)) ⌝ }
-    ensures told { λ r. ⌜ now (numbers .exit) ≡ numbersOf (judged (call (now (settings .entry)) (now (exercise .entry)) (now (answer .entry)) (length (now (route .entry))))) ⌝ }
+    ensures bytes { λ r. ⌜ now r ≡ bytesOf (now (exercise .entry)) (now (answer .entry)) (judged (call (now (settings .entry)) (now (exercise .entry)) (now (answer .entry)) (length (now (route .entry))) (length (now (tries .entry)))) .culprit) ⌝ }
+    ensures place { λ r. ⌜ r .ptr ≡ addressOf (exercise .entry .ptr) (answer .entry .ptr) (judged (call (now (settings .entry)) (now (exercise .entry)) (now (answer .entry)) (length (now (route .entry))) (length (now (tries .entry)))) .culprit) ⌝ }
+    ensures routes { λ r. ⌜ now (route .exit) ≡ routed (call (now (settings .entry)) (now (exercise .entry)) (now (answer .entry)) (length (now (route .entry))) (length (now (tries .entry)))) (now (route .entry)) ⌝ }
+    ensures counts { λ r. ⌜ now (tries .exit) ≡ tried (call (now (settings .entry)) (now (exercise .entry)) (now (answer .entry)) (length (now (route .entry))) (length (now (tries .entry)))) (now (tries .entry)) ⌝ }
+    ensures told { λ r. ⌜ now (numbers .exit) ≡ numbersOf (judged (call (now (settings .entry)) (now (exercise .entry)) (now (answer .entry)) (length (now (route .entry))) (length (now (tries .entry))))) ⌝ }
 {
-    let v = judge_sheets(settings, exercise, answer, route);
+    let v = judge_sheets(settings, exercise, answer, route, tries);
     let number = wide8(v.number);
     let cell = wide16(v.cell);
     let lab = wide16(v.lab);

@@ -51,6 +51,16 @@ fn room_for(case: u8) -> usize
     judge::ROUTE_SIZE
 }
 
+// The length of a case's list of tries: a number short for number 3.
+fn slots_for(case: u8) -> usize
+    ensures { λ r. ⌜ r ≤ 1024 ⌝ }
+{
+    if case == 3 {
+        return judge::TRIES_SIZE - 1;
+    }
+    judge::TRIES_SIZE
+}
+
 fn verdict(numbers: [u32; 4]) {
     word(b"verdict");
     number(numbers[0] as u64);
@@ -63,12 +73,20 @@ fn verdict(numbers: [u32; 4]) {
 }
 
 // A line with what the judge hands back.
-fn show<'a>(settings: &[u8], exercise: &'a [u8], answer: &'a [u8], room: usize)
-    requires { ⌜ room ≤ 8192 ⌝ }
+fn show<'a>(settings: &[u8], exercise: &'a [u8], answer: &'a [u8], room: usize, slots: usize)
+    requires { ⌜ (room ≤ 8192) × (slots ≤ 1024) ⌝ }
 {
     let mut route = [255u8; judge::ROUTE_SIZE];
+    let mut tries = [0u32; judge::TRIES_SIZE];
     let mut numbers = [0u32; 4];
-    let culprit = judge::judge(settings, exercise, answer, &mut route[..room], &mut numbers);
+    let culprit = judge::judge(
+        settings,
+        exercise,
+        answer,
+        &mut route[..room],
+        &mut tries[..slots],
+        &mut numbers,
+    );
     verdict(numbers);
     word(b" culprit");
     bytes(culprit);
@@ -90,10 +108,22 @@ fn run(case: u8)
     let k = read_sheet(case, b't', &mut settings);
     if k == 0 {
         let house = settings::house_settings();
-        show(&house, &exercise[..n], &answer[..m], room_for(case));
+        show(
+            &house,
+            &exercise[..n],
+            &answer[..m],
+            room_for(case),
+            slots_for(case),
+        );
         return;
     }
-    show(&settings[..k], &exercise[..n], &answer[..m], room_for(case));
+    show(
+        &settings[..k],
+        &exercise[..n],
+        &answer[..m],
+        room_for(case),
+        slots_for(case),
+    );
 }
 
 fn main() {

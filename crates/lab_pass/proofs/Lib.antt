@@ -7,4 +7,5 @@ pub mod Marked
 pub mod Filling
 pub mod Passing
 pub mod Rows
+pub mod Tried
 pub mod Labs

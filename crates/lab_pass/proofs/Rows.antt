@@ -17,9 +17,9 @@ use Rattle.route.specs.Table.{Table}
 use Rattle.route.specs.Way.{earliestWay}
 use Rattle.route.specs.Route.{eightBytes, labRouteOf}
 use Rattle.lab_nets.specs.passes.Uses.{netsWithin}
-use Rattle.lab_rules.specs.passes.Counts.{noCounts, countsAll, brokenBy, needsHeld, routedResult, resultFrom}
+use Rattle.lab_rules.specs.passes.Counts.{noCounts, countsAll, brokenBy, needsHeld, routedResult, resultFrom, searched}
 use Rattle.lab_rules.specs.declared.Counts.{Counts}
-use Rattle.lab_pass.specs.passes.Results.{resultOf, putRow, putRows}
+use Rattle.lab_pass.specs.passes.Results.{searchOf, putRow, putRows}
 use Rattle.lab_pass.proofs.Filling.{rowFrom, row-length, row-at, Written, write-starts, write-goes, write-ends}
 
 row-append : (g : ℕ → ℕ) (i m n : ℕ) → rowFrom g i (m + n) ≡ rowFrom g i m ++ rowFrom g (i + m) n
@@ -129,7 +129,7 @@ from-eight : (t : Table) (k : Counts) (nets : ℕ) → length (resultFrom t k ne
 unfolding resultFrom
 from-eight t k nets = by-test (eqb (brokenBy k nets) 0) (λ e. rw e (routed-eight (needsHeld k) (earliestWay t (needsHeld k)))) (λ e. rw e)
 
-pub bytes-eight : (t : Table) (get : ℕ → Record) (is : List ℕ) → length (resultOf t get is .bytes) ≡ 8
-unfolding resultOf
+pub bytes-eight : (t : Table) (get : ℕ → Record) (is : List ℕ) → length (searchOf t get is .result .bytes) ≡ 8
+unfolding searchOf searched
 bytes-eight t get is =
     from-eight t (countsAll noCounts (map get is)) (length (netsWithin (map get is)))

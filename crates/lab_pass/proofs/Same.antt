@@ -1,5 +1,5 @@
--- Counters that hold the same are equal, so a LAB with the counts and the nets in of another has its result, and one with nothing counted keeps every
--- rule and has no route. Assumes nothing.
+-- Counters that hold the same are equal, so a LAB with the counts and the nets in of another has its result and its tries, and one with nothing
+-- counted keeps every rule, has no route and no tries. Assumes nothing.
 use Prim.Native.Nat.{ℕ}
 use mathlib.Core.Path.{_≡_, refl, sym, _∙_}
 use mathlib.Core.Bool.{Bool, true}
@@ -10,11 +10,11 @@ use Rattle.sheet.proofs.Laws.{and-parts}
 use Rattle.exercise.specs.declared.Record.{Record}
 use Rattle.distinct.specs.declared.UpToTwo.{UpToTwo}
 use Rattle.route.specs.Table.{Table}
-use Rattle.lab_rules.specs.passes.Counts.{noCounts, resultFrom}
+use Rattle.lab_rules.specs.passes.Counts.{noCounts, searched}
 use Rattle.lab_rules.specs.declared.Counts.{Counts}
-use Rattle.lab_rules.specs.declared.LabResult.{LabResult}
+use Rattle.lab_rules.specs.declared.LabSearch.{LabSearch}
 use Rattle.lab_pass.specs.declared.Counted.{Counted}
-use Rattle.lab_pass.specs.passes.Results.{resultOf, sameCodes, sameCounts, sameCounted, Tells}
+use Rattle.lab_pass.specs.passes.Results.{searchOf, sameCodes, sameCounts, sameCounted, Tells}
 use Rattle.lab_pass.proofs.Taking.{nothing-broken}
 
 codes-equal : (n l h m k g : ℕ) → n ≡ m → l ≡ k → h ≡ g → _≡_ {A = UpToTwo} (record { count = n; low = l; high = h }) (record { count = m; low = k; high = g })
@@ -43,13 +43,13 @@ same-counts a b h =
     (same-codes _ _ (e .1))
 
 module _ (t : Table) (a b : Counted) (s : Bool) (q : s ≡ sameCounted a b) (h : s ≡ true) where
-  pub same-result : {r : LabResult} → r ≡ resultFrom t (b .counts) (b .nets) → r ≡ resultFrom t (a .counts) (a .nets)
+  pub same-search : {r : LabSearch} → r ≡ searched t (b .counts) (b .nets) → r ≡ searched t (a .counts) (a .nets)
   unfolding sameCounted
-  same-result z =
+  same-search z =
       let p = and-parts _ _ (sym q ∙ h) in
       z ∙ rw (same-counts (a .counts) (b .counts) (p .0), eqb-true (a .nets) (b .nets) (p .1))
 
   -- nothing is counted in b
-  pub idle-result : b .counts ≡ noCounts → b .nets ≡ 0 → (get : ℕ → Record) (is : List ℕ) → Tells get is (a .counts) (a .nets)
-      → _≡_ {A = LabResult} (record { number = 0; bytes = replicate 8 255 }) (resultOf t get is)
-  idle-result n z get is w = same-result (sym (rw (n, z) (nothing-broken t 0 refl))) ∙ w .told t
+  pub idle-search : b .counts ≡ noCounts → b .nets ≡ 0 → (get : ℕ → Record) (is : List ℕ) → Tells get is (a .counts) (a .nets)
+      → _≡_ {A = LabSearch} (record { result = record { number = 0; bytes = replicate 8 255 }; tries = 0 }) (searchOf t get is)
+  idle-search n z get is w = same-search (sym (rw (n, z) (nothing-broken t 0 refl))) ∙ w .told t

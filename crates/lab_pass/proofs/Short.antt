@@ -1,4 +1,4 @@
--- A LAB of five cells at the most reads 35 nets at the most, so its result is the same with no net counted; and how the loop of `is_short` goes.
+-- A LAB of five cells at the most reads 35 nets at the most, so its result and its tries are the same with no net counted; and how the loop of `is_short` goes.
 -- Assumes nothing.
 use Prim.Native.Nat.{ℕ, suc, _+_, _*_, _-_, _≤_, _<_}
 use mathlib.Core.Path.{_≡_, sym, ap, _∙_}
@@ -26,11 +26,11 @@ use Rattle.lab_nets.specs.NetsIn.{inputs, netsAt, netsIn}
 use Rattle.lab_nets.specs.passes.Uses.{netsWithin}
 use Rattle.lab_nets.proofs.Cells.{cells-lower, cells-counted}
 use Rattle.lab_rules.specs.Rules.{MAX_NETS_IN}
-use Rattle.lab_rules.specs.passes.Counts.{noCounts, countsAll, brokenBy, resultFrom}
+use Rattle.lab_rules.specs.passes.Counts.{noCounts, countsAll, brokenBy, resultFrom, triesFor, searched}
 use Rattle.lab_rules.specs.declared.Counts.{Counts}
 use Rattle.sheet.specs.Checks.{NONE}
 use Rattle.lab_pass.specs.passes.Links.{walk}
-use Rattle.lab_pass.specs.passes.Results.{markedIf, resultOf, Tells}
+use Rattle.lab_pass.specs.passes.Results.{markedIf, searchOf, Tells}
 
 -- ---- the reads of cells
 inputs-most : (c : Record) → length (inputs c) ≤ 7
@@ -55,19 +55,19 @@ within-most cs =
     omega (arith, filter-length (λ n. ltb n 1024) (filterb outside (rising read)), filter-length outside (rising read), distinct-length read, reads-most cs)
 
 -- ---- the result
-nets-few : (t : Table) (k : Counts) (n : ℕ) → n ≤ MAX_NETS_IN → resultFrom t k n ≡ resultFrom t k 0
-unfolding resultFrom brokenBy
+nets-few : (t : Table) (k : Counts) (n : ℕ) → n ≤ MAX_NETS_IN → searched t k n ≡ searched t k 0
+unfolding searched resultFrom triesFor brokenBy
 nets-few t k n h = rw (le-ltb MAX_NETS_IN n h)
 
 -- 64: a short list keeps it
-pub short-is : (t : Table) (get : ℕ → Record) (is : List ℕ) → length is ≤ 5 → resultFrom t (countsAll noCounts (map get is)) 0 ≡ resultOf t get is
-unfolding resultOf
+pub short-is : (t : Table) (get : ℕ → Record) (is : List ℕ) → length is ≤ 5 → searched t (countsAll noCounts (map get is)) 0 ≡ searchOf t get is
+unfolding searchOf
 short-is t get is h =
     let cs = map get is in
     sym (nets-few t (countsAll noCounts cs) (length (netsWithin cs)) (omega (arith, within-most cs, length-map is get)))
 
 -- up to the limit of 64 the number of nets makes no difference
-over-is : (t : Table) (k : Counts) (n : ℕ) → resultFrom t k (cond (ltb MAX_NETS_IN n) n 0) ≡ resultFrom t k n
+over-is : (t : Table) (k : Counts) (n : ℕ) → searched t k (cond (ltb MAX_NETS_IN n) n 0) ≡ searched t k n
 over-is t k n = by-test (ltb MAX_NETS_IN n) (λ e. rw e) (λ e. rw e (sym (nets-few t k n (ltb-false MAX_NETS_IN n e))))
 
 -- what a list tells: its nets are counted exactly if it is not short; and the marks are no higher than the LAB's
@@ -77,7 +77,7 @@ module _ (get : ℕ → Record) (is : List ℕ) (counts : Counts) (k : counts �
   Counted b = marking m nets ≡ markedIf b l (marking m₀ 0) (map get is)
 
   abbrev Told : Type 0
-  Told = ((t : Table) → resultFrom t counts nets ≡ resultOf t get is) × Lower 1024 (l .driven + 1) m
+  Told = ((t : Table) → searched t counts nets ≡ searchOf t get is) × Lower 1024 (l .driven + 1) m
 
   short-told : Counted false → length is ≤ 5 → Told
   unfolding markedIf
@@ -87,7 +87,7 @@ module _ (get : ℕ → Record) (is : List ℕ) (counts : Counts) (k : counts �
   )
 
   long-told : Counted true → Told
-  unfolding markedIf resultOf
+  unfolding markedIf searchOf
   long-told q =
       let cs = map get is in (
         λ t. rw (k, ap (λ (x : Marking). x .count) q, cells-counted l up m₀ low cs),

@@ -1,5 +1,5 @@
 -- How the loop of `count_cells` goes: the cells that are left of the list make the rest of the counts and of the marks. And a list without cells
--- keeps every rule and has no route. Assumes nothing.
+-- keeps every rule, has no route and no tries. Assumes nothing.
 use Prim.Native.Nat.{ℕ, zero, suc, _+_, _-_, _≤_, _<_}
 use mathlib.Core.Path.{_≡_, refl, sym, _∙_}
 use mathlib.Core.Bool.{Bool, true, false, cond}
@@ -15,14 +15,15 @@ use Rattle.distinct.specs.passes.UpToTwo.{codesOf}
 use Rattle.route.specs.Table.{Table}
 use Rattle.route.specs.Route.{eightBytes, labRouteOf}
 use Rattle.route.proofs.AllWays.{no-needs}
+use Rattle.route.proofs.Tries.{no-tries}
 use Rattle.lab_nets.specs.NetsIn.{netsIn}
 use Rattle.lab_nets.specs.passes.Uses.{usesOf, markCells, netsWithin}
 use Rattle.lab_nets.proofs.Cells.{marks-cons}
-use Rattle.lab_rules.specs.passes.Counts.{noCounts, countsWith, countsAll, brokenBy, onlyCode, needsHeld, resultFrom}
+use Rattle.lab_rules.specs.passes.Counts.{noCounts, countsWith, countsAll, brokenBy, onlyCode, needsHeld, resultFrom, triesFor, searched}
 use Rattle.lab_rules.specs.declared.Counts.{Counts}
 use Rattle.sheet.specs.Checks.{NONE}
 use Rattle.lab_pass.specs.passes.Links.{walk}
-use Rattle.lab_pass.specs.passes.Results.{markedIf, resultOf}
+use Rattle.lab_pass.specs.passes.Results.{markedIf, searchOf}
 
 -- the first of some cells is marked before the others
 marked-cons : (b : Bool) (l : LabMarks) (m : Marking) (c : Record) (cs : List Record) → markedIf b l m (c ∷ cs) ≡ markedIf b l (cond b (markAll l m (usesOf c)) m) cs
@@ -67,10 +68,10 @@ pub walk-all : (next : List ℕ) (at n k : ℕ) → n ≤ k → walk next at (n 
 unfolding walk
 walk-all next at n k h = let none : n - k ≡ zero = omega arith in rw none
 
-pub nothing-broken : (t : Table) (m : ℕ) → m ≡ 0 → resultFrom t noCounts m ≡ record { number = 0; bytes = replicate 8 255 }
-unfolding resultFrom brokenBy needsHeld codesOf onlyCode labRouteOf eightBytes
-nothing-broken t m z = rw (z, no-needs t)
+pub nothing-broken : (t : Table) (m : ℕ) → m ≡ 0 → searched t noCounts m ≡ record { result = record { number = 0; bytes = replicate 8 255 }; tries = 0 }
+unfolding searched resultFrom triesFor brokenBy needsHeld codesOf onlyCode labRouteOf eightBytes
+nothing-broken t m z = rw (z, no-needs t, no-tries t)
 
-pub result-none : (t : Table) (get : ℕ → Record) → resultOf t get [] ≡ record { number = 0; bytes = replicate 8 255 }
-unfolding resultOf countsAll netsWithin netsIn
-result-none t get = nothing-broken t 0 refl
+pub search-none : (t : Table) (get : ℕ → Record) → searchOf t get [] ≡ record { result = record { number = 0; bytes = replicate 8 255 }; tries = 0 }
+unfolding searchOf countsAll netsWithin netsIn
+search-none t get = nothing-broken t 0 refl

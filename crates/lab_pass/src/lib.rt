@@ -2,7 +2,7 @@ use distinct::LabMarks;
 use distinct::UpToTwo;
 use exercise::Record;
 use lab_rules::Counts;
-use lab_rules::LabResult;
+use lab_rules::LabSearch;
 use route::EntryTable;
 use sheet::CellNumber;
 ghost use mathlib.Core.Path.{_≡_};
@@ -14,10 +14,10 @@ ghost use lib.Dec.{leb, ltb};
 ghost use Rattle.lab_rules.specs.Rules.{MAX_NETS_IN};
 ghost use Rattle.exercise.specs.passes.Known.{knownAt};
 ghost use Rattle.distinct.specs.passes.Marks.{marking, markAll, Lower};
-ghost use Rattle.lab_rules.specs.passes.Counts.{noCounts, countsAll, resultFrom};
+ghost use Rattle.lab_rules.specs.passes.Counts.{noCounts, countsAll, searched};
 ghost use Rattle.lab_nets.specs.passes.Uses.{usesOf};
 ghost use Rattle.lab_pass.specs.passes.Links.{link, linkBelow, walk};
-ghost use Rattle.lab_pass.specs.passes.Results.{marksOf, markedIf, sameCodes, sameCounts, sameCounted, Tells, resultAt, hasCells, lowestBroken, putRow, putRows};
+ghost use Rattle.lab_pass.specs.passes.Results.{marksOf, markedIf, sameCodes, sameCounts, sameCounted, Tells, resultAt, triesAt, hasCells, lowestBroken, putRow, putRows, putTries, searchedLabs};
 
 // The number of LABs.
 pub const LABS: u16 = 1024;
@@ -34,10 +34,10 @@ struct Counted {
     nets: u16,
 }
 
-// Counts and nets in, with the result of a LAB that has them.
+// Counts and nets in, with the result and the tries of a LAB that has them.
 struct Solved {
     counted: Counted,
-    result: LabResult,
+    search: LabSearch,
 }
 
 // Puts every cell into the list of its LAB, rising: `first` has a LAB's first cell, `next` the next cell of the same LAB.
@@ -211,17 +211,17 @@ fn same_counted(a: Counted, b: Counted) -> bool
     same_counts(a.counts, b.counts) & nets
 }
 
-// The result of a LAB: that of the LAB before where the counts and the nets in are the same.
+// The result and the tries of a LAB: those of the LAB before where the counts and the nets in are the same.
 fn solve(table: EntryTable, counted: Counted, before: Solved) -> Solved
-    requires { ⌜ before .result ≡ resultFrom table (before .counted .counts) (before .counted .nets) ⌝ }
-    ensures solved { λ r. ⌜ r .result ≡ resultFrom table (counted .counts) (counted .nets) ⌝ }
-    ensures kept { λ r. ⌜ r .result ≡ resultFrom table (r .counted .counts) (r .counted .nets) ⌝ }
+    requires { ⌜ before .search ≡ searched table (before .counted .counts) (before .counted .nets) ⌝ }
+    ensures solved { λ r. ⌜ r .search ≡ searched table (counted .counts) (counted .nets) ⌝ }
+    ensures kept { λ r. ⌜ r .search ≡ searched table (r .counted .counts) (r .counted .nets) ⌝ }
 {
     if same_counted(counted, before.counted) {
         return before;
     }
-    let result = lab_rules::lab_result(table, counted.counts, counted.nets);
-    Solved { counted, result }
+    let search = lab_rules::lab_search(table, counted.counts, counted.nets);
+    Solved { counted, search }
 }
 
 // Puts a LAB's eight route bytes into the rows.
@@ -241,25 +241,27 @@ fn put_row(rows: &mut [u8; 8192], lab: u16, bytes: [u8; 8])
 }
 
 // 60 to 65, in an exercise that passes 15: the lowest LAB that breaks one of them, with the number. The route bytes of the occupied LABs below it are
-// put into the rows.
+// put into the rows, their tries and those of the LAB itself into the list.
 pub fn route_labs(
     table: EntryTable,
     exercise: &[u8],
     first: &[u16],
     next: &[u16],
     rows: &mut [u8; 8192],
+    tries: &mut [u32; 1024],
 ) -> LowestBroken
     ensures found { λ r. ⌜ r ≡ lowestBroken table (knownAt (now (exercise .entry))) (now (first .entry)) (now (next .entry)) ⌝ }
     ensures written { λ r. ⌜ now (rows .exit) ≡ putRows (hasCells (now (first .entry)) (now (next .entry))) (λ l. resultAt table (knownAt (now (exercise .entry))) (now (first .entry)) (now (next .entry)) l .bytes) (now (rows .entry)) (r .lab) ⌝ }
+    ensures counted { λ r. ⌜ now (tries .exit) ≡ putTries (hasCells (now (first .entry)) (now (next .entry))) (triesAt table (knownAt (now (exercise .entry))) (now (first .entry)) (now (next .entry))) (now (tries .entry)) (searchedLabs (r .lab)) ⌝ }
 {
     let idle = Counted {
         counts: Counts::none(),
         nets: 0,
     };
-    let result = lab_rules::lab_result(table, idle.counts, 0);
+    let search = lab_rules::lab_search(table, idle.counts, 0);
     let mut solved = Solved {
         counted: idle,
-        result,
+        search,
     };
     let mut marks = [0u16; 1024];
     let mut lab: u16 = 0;
@@ -272,11 +274,14 @@ pub fn route_labs(
         let counted = counted_from(exercise, next, start, marks_of(lab), &mut marks);
         if same_counted(counted, idle) {
             put_row(rows, lab, [255u8; 8]);
+            tries[lab as usize] = 0;
             lab += 1;
             continue;
         }
         solved = solve(table, counted, solved);
-        let result = solved.result;
+        let search = solved.search;
+        tries[lab as usize] = search.tries;
+        let result = search.result;
         let number = result.number;
         if number != 0 {
             return LowestBroken { lab, number };

@@ -1,12 +1,15 @@
 -- The number of a LAB: 65 is asked where 60 to 64 hold. Assumes nothing.
 use Prim.Native.Nat.{ℕ, _<_}
-use mathlib.Core.Path.{_≡_, refl}
+use mathlib.Core.Path.{_≡_, refl, sym, _∙_}
+use mathlib.Core.Logic.{_⊎_, ⊎-elim}
 use mathlib.Core.Bool.{false, cond}
 use mathlib.Core.List.{List, [], _∷_, _++_}
 use native.Mathlib.Omega.{arith}
 use lib.Dec.{eqb}
+use borrow.Author.Tests.{eqb-true}
 use Rattle.sheet.specs.Checks.{check, firstNumber}
 use Rattle.exercise.specs.declared.Record.{Record}
+use Rattle.sheet.proofs.Laws.{by-test}
 use Rattle.sheet.proofs.Checks.{all-held, in-turn, found}
 use Rattle.route.specs.Table.{Table}
 use Rattle.lab_rules.specs.Rules.{tooManyClocks, tooManyPairs, tooManyClears, tooManySynchronous, noWay, labRules, labChecks, labNumber}
@@ -35,3 +38,10 @@ module _ (t : Table) (cs : List Record) where
   pub lab-low : labNumber t cs < 66
   unfolding labNumber
   lab-low = found (λ n. n < 66) (omega arith) (labChecks t cs) (omega arith, (omega arith, (omega arith, (omega arith, (omega arith, (omega arith, tt))))))
+
+  -- a LAB that is legal or has no way keeps 60 to 64
+  pub rules-kept : (labNumber t cs ≡ 0) ⊎ (labNumber t cs ≡ 65) → firstNumber (labRules cs) ≡ 0
+  rules-kept h = by-test (eqb (firstNumber (labRules cs)) 0) (λ e. eqb-true (firstNumber (labRules cs)) 0 e) (λ e. other (rw e at number-is))
+    where
+      other : labNumber t cs ≡ firstNumber (labRules cs) → firstNumber (labRules cs) ≡ 0
+      other q = ⊎-elim (λ z. sym q ∙ z) (λ z. absurd (omega (arith, rules-low cs, sym q ∙ z))) h

@@ -7,7 +7,7 @@ use mathlib.Core.Option.{Option, none, some}
 use native.Mathlib.Omega.{arith}
 use lib.ListN.{length, replicate}
 use lib.Dec.{eqb}
-use borrow.Author.Tests.{eqb-true}
+use borrow.Author.Tests.{eqb-true, eq-eqb}
 use Rattle.sheet.specs.Checks.{firstNumber}
 use Rattle.exercise.specs.declared.Record.{Record}
 use Rattle.sheet.proofs.Laws.{by-test}
@@ -19,8 +19,8 @@ use Rattle.route.specs.Way.{earliestWay}
 use Rattle.route.specs.Route.{labRouteOf}
 use Rattle.lab_nets.specs.NetsIn.{netsIn}
 use Rattle.lab_rules.specs.Ports.{clock, clockPair, clear, synchronous, inLab}
-use Rattle.lab_rules.specs.Rules.{tooManyClocks, tooManyPairs, tooManyClears, tooManySynchronous, tooManyNets, needs, isNone, noWay, labRules, routeOf, labResult}
-use Rattle.lab_rules.specs.passes.Counts.{countsOf, brokenBy, routedResult, resultFrom, AllFit}
+use Rattle.lab_rules.specs.Rules.{tooManyClocks, tooManyPairs, tooManyClears, tooManySynchronous, tooManyNets, needs, isNone, noWay, labRules, routeOf, labResult, labTries}
+use Rattle.lab_rules.specs.passes.Counts.{countsOf, brokenBy, routedResult, resultFrom, triesFor, AllFit}
 use Rattle.lab_rules.proofs.Needed.{needs-held}
 use Rattle.lab_rules.proofs.Checks.{rules-held, number-is}
 
@@ -50,3 +50,10 @@ result-is t cs fit =
     (λ z. let h = rules-held cs (eqb-true (firstNumber (labRules cs)) 0 z) in
     rw (z, needs-held cs fit (h .0) (h .1) (h .2) (h .3)) (routed-is (needs cs) (earliestWay t (needs cs))))
     (λ z. rw (z, z)))
+
+-- the tries of a LAB that keeps 60 to 64
+pub tries-are : (t : Table) (cs : List Record) → AllFit cs → firstNumber (labRules cs) ≡ 0 → triesFor t (countsOf cs) (length (netsIn cs)) ≡ labTries t cs
+unfolding triesFor labTries
+tries-are t cs fit z =
+    let h = rules-held cs z in
+    rw (broken-is cs, eq-eqb (firstNumber (labRules cs)) 0 z, needs-held cs fit (h .0) (h .1) (h .2) (h .3))

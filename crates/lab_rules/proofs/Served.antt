@@ -1,4 +1,4 @@
--- Two tables whose entries serve the same give a LAB the same number and the same route. Assumes nothing.
+-- Two tables whose entries serve the same give a LAB the same number, the same route and the same tries. Assumes nothing.
 use Prim.Native.Nat.{ℕ}
 use mathlib.Core.Path.{_≡_, ap}
 use mathlib.Core.List.{List, [], _∷_, _++_}
@@ -8,7 +8,8 @@ use Rattle.exercise.specs.declared.Record.{Record}
 use Rattle.route.specs.Table.{Table}
 use Rattle.route.specs.Route.{labRouteOf}
 use Rattle.route.proofs.AllWays.{SameServed, same-earliest}
-use Rattle.lab_rules.specs.Rules.{needs, isNone, noWay, labRules, labNumber, routeOf, labResult}
+use Rattle.route.proofs.Tries.{same-tries as tries-served}
+use Rattle.lab_rules.specs.Rules.{needs, isNone, noWay, labRules, labNumber, routeOf, labTries, labResult}
 
 module _ (t u : Table) (same : SameServed t u) (cs : List Record) where
   -- 65
@@ -23,3 +24,7 @@ module _ (t u : Table) (same : SameServed t u) (cs : List Record) where
   pub same-result : labResult t cs ≡ labResult u cs
   unfolding labResult
   same-result = rw (number-same, route-same)
+
+  pub same-tries : labTries t cs ≡ labTries u cs
+  unfolding labTries
+  same-tries = tries-served t u same (needs cs)

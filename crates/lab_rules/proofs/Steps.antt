@@ -21,14 +21,17 @@ use Rattle.distinct.specs.passes.UpToTwo.{withCode, withCodes, codesOf}
 use Rattle.route.specs.declared.Need.{Need}
 use Rattle.route.specs.declared.Needs.{Needs}
 use Rattle.route.specs.declared.LabRoute.{LabRoute}
+use Rattle.route.specs.declared.RouteSearch.{RouteSearch}
 use Rattle.route.specs.Table.{Table, CLK, ENA, ACLR, SCLR, SLOAD, withNeed, needList, needsOf, noNeeds}
 use Rattle.route.specs.Way.{earliestWay}
 use Rattle.route.specs.Route.{labRouteOf}
+use Rattle.route.specs.Tries.{tries}
 use Rattle.route.proofs.NeedLists.{no-needs-of, list-needs, with-need}
 use Rattle.lab_rules.specs.declared.Counts.{Counts}
+use Rattle.lab_rules.specs.declared.LabSearch.{LabSearch}
 use Rattle.lab_rules.specs.Ports.{clk, ena, used, counted, clock, clockPair, clear, pair, inUse, fixed, pairInUse, synchronous, needed}
 use Rattle.lab_rules.specs.Rules.{needsOfRole}
-use Rattle.lab_rules.specs.passes.Counts.{countsWith, netCodes, onlyCode, first, second, brokenBy, withNeeds, needsHeld, routedResult, resultFrom}
+use Rattle.lab_rules.specs.passes.Counts.{countsWith, netCodes, onlyCode, first, second, brokenBy, withNeeds, needsHeld, refused, routedResult, resultFrom, triesFor, searched}
 
 -- ---- counters
 -- the codes up to GND's are those of unconnected and GND
@@ -163,9 +166,24 @@ module _ (k : Counts) {n₀ n₁ n₂ n₃ n₄ : Needs} where
   unfolding needsHeld
   needs-are h₀ h₁ h₂ h₃ h₄ = rw (← held-of k) (simp needs-append (rw (h₄, h₃, h₂, h₁, h₀) refl))
 
+-- a LAB that breaks one of 60 to 64 is not searched
+pub broken-search : (t : Table) (k : Counts) (nets n : ℕ) → n ≡ brokenBy k nets → (n ≡ 0 → ⊥)
+    → _≡_ {A = LabSearch} (record { result = refused n; tries = 0 }) (searched t k nets)
+unfolding searched resultFrom triesFor
+broken-search t k nets n q d = rw (← q, ne-eqb n 0 d)
+
 -- where no rule of 60 to 64 is broken, the route of the needs that are held decides
 pub held-result : (t : Table) (k : Counts) (nets : ℕ) (n : Needs) {r : LabRoute} → brokenBy k nets ≡ 0 → n ≡ needsOf (needsHeld k) → r ≡ labRouteOf (needList n) (earliestWay t (needList n)) → resultFrom t k nets ≡ routedResult r
 unfolding resultFrom
 held-result t k nets n z h e =
     let route = rw (h, list-needs (needsHeld k) (held-fits k)) at e in
     rw (z, ← route)
+
+-- and its tries are the LAB's
+pub held-search : (t : Table) (k : Counts) (nets : ℕ) (n : Needs) (r : RouteSearch) → brokenBy k nets ≡ 0 → n ≡ needsOf (needsHeld k)
+    → r .route ≡ labRouteOf (needList n) (earliestWay t (needList n)) → r .tries ≡ tries t (needList n)
+    → searched t k nets ≡ record { result = routedResult (r .route); tries = r .tries }
+unfolding searched triesFor
+held-search t k nets n r z h e c =
+    let made = rw (h, list-needs (needsHeld k) (held-fits k)) at c in
+    rw (held-result t k nets n z h e, z, ← made)

@@ -14,6 +14,7 @@ use Rattle.route.specs.declared.Need.{Need}
 use Rattle.route.specs.Table.{Table, CLK, ENA, ACLR, SCLR, SLOAD}
 use Rattle.route.specs.Way.{earliestWay}
 use Rattle.route.specs.Route.{labRouteOf}
+use Rattle.route.specs.Tries.{tries}
 use Rattle.lab_nets.specs.NetsIn.{netsIn}
 use Rattle.lab_rules.specs.declared.LabResult.{LabResult}
 use Rattle.lab_rules.specs.Ports.{clk, ena, aclr, sclr, sload, clock, clockPair, clear, synchronous, needed, inLab}
@@ -84,6 +85,10 @@ labNumber t cs = firstNumber (labChecks t cs)
 -- the LAB's route bytes: "the number of the entry that the LAB's earliest way gives"
 unfoldable pub routeOf : Table → List Record → List ℕ
 routeOf t cs = labRouteOf (needs cs) (earliestWay t (needs cs)) .bytes
+
+-- M-106: the LAB's tries, "the partial ways .. that stand at or before the answer"
+unfoldable pub labTries : Table → List Record → ℕ
+labTries t cs = tries t (needs cs)
 
 -- the lowest broken of 60 to 65, or 0 with the LAB's eight route bytes; "eight 255s otherwise"
 unfoldable pub labResult : Table → List Record → LabResult

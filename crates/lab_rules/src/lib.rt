@@ -14,7 +14,7 @@ ghost use Rattle.distinct.specs.passes.UpToTwo.{withCodes, codesOf};
 ghost use Rattle.route.specs.Table.{SCLR, SLOAD, needsOf};
 ghost use Rattle.lab_rules.specs.Ports.{clockPair, pair, inUse, fixed, pairInUse};
 ghost use Rattle.lab_rules.specs.Rules.{needsOfRole};
-ghost use Rattle.lab_rules.specs.passes.Counts.{noCounts, countsWith, brokenBy, netCodes, onlyCode, first, second, withNeeds, needsHeld, resultFrom};
+ghost use Rattle.lab_rules.specs.passes.Counts.{noCounts, countsWith, brokenBy, netCodes, onlyCode, first, second, withNeeds, needsHeld, resultFrom, searched};
 
 // Rule 64: more nets than this break it.
 pub const MAX_NETS_IN: u16 = 38;
@@ -33,6 +33,12 @@ pub struct Counts {
 pub struct LabResult {
     pub number: u8,
     pub bytes: [u8; 8],
+}
+
+// The result of a LAB, and how many tries the search for its route made: none where it breaks one of 60 to 64.
+pub struct LabSearch {
+    pub result: LabResult,
+    pub tries: u32,
 }
 
 // A port's signal counted: a connected one as it is, an unconnected one of a used register as the default.
@@ -235,24 +241,37 @@ pub fn needs_held(counts: Counts) -> Needs
     with_only(aclr, counts.synchronous)
 }
 
-// The result of a LAB with these counts and so many nets in, on a board with this entry table.
-pub fn lab_result(table: EntryTable, counts: Counts, nets: u16) -> LabResult
-    ensures { λ r. ⌜ r ≡ resultFrom table counts nets ⌝ }
+// The result of a LAB with these counts and so many nets in, on a board with this entry table, and the tries.
+pub fn lab_search(table: EntryTable, counts: Counts, nets: u16) -> LabSearch
+    ensures { λ r. ⌜ r ≡ searched table counts nets ⌝ }
 {
     let number = broken_by(counts, nets);
     if number != 0 {
-        return LabResult {
+        let result = LabResult {
             number,
             bytes: [255u8; 8],
         };
+        return LabSearch { result, tries: 0 };
     }
-    let route = route::lab_route(table, needs_held(counts));
+    let search = route::lab_route(table, needs_held(counts));
+    let route = search.route;
+    let tries = search.tries;
     if route.found {
         let bytes = route.bytes;
-        return LabResult { number: 0, bytes };
+        let result = LabResult { number: 0, bytes };
+        return LabSearch { result, tries };
     }
-    LabResult {
+    let result = LabResult {
         number: 65,
         bytes: [255u8; 8],
-    }
+    };
+    LabSearch { result, tries }
+}
+
+// The result alone.
+pub fn lab_result(table: EntryTable, counts: Counts, nets: u16) -> LabResult
+    ensures { λ r. ⌜ r ≡ resultFrom table counts nets ⌝ }
+{
+    let search = lab_search(table, counts, nets);
+    search.result
 }

@@ -51,7 +51,7 @@ labLines c = concatMap (λ l. labLine l (routeOf (inForce c) (labCells c l))) (f
 
 -- the judge's call for a listing: with a route buffer of the right length
 abbrev pub listingCall : List ℕ → List ℕ → List ℕ → Call
-listingCall s e a = call s e a 8192
+listingCall s e a = call s e a 8192 1024
 
 -- THE LISTING: "One verdict line, then for a legal answer one line for each occupied LAB, rising"
 unfoldable pub listing : List ℕ → List ℕ → List ℕ → List ℕ

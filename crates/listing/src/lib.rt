@@ -189,7 +189,8 @@ pub fn listing(settings: &[u8], exercise: &[u8], answer: &[u8], out: &mut [u8]) 
     ensures short { λ r. ⌜ r ≤ MOST ⌝ }
 {
     let mut route = [NO_ENTRY; judge::ROUTE_SIZE];
-    let verdict = judge::judge_sheets(settings, exercise, answer, &mut route);
+    let mut tries = [0u32; judge::TRIES_SIZE];
+    let verdict = judge::judge_sheets(settings, exercise, answer, &mut route, &mut tries);
     let next = verdict_line(out, 0, verdict);
     if verdict.number != 0 {
         return next;

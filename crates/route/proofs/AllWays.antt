@@ -96,7 +96,7 @@ not-in e [] h = refl
 not-in e (x ∷ w) h = rw (ne-eqb e x (h 0 (omega arith))) (not-in e w (λ i m. h (suc i) (omega arith)))
 
 module _ (t : Table) where
-  is-way : (ns : List Need) (w : List ℕ) → isWay t ns w ≡ true → Way t ns w
+  pub is-way : (ns : List Need) (w : List ℕ) → isWay t ns w ≡ true → Way t ns w
   unfolding isWay
   is-way [] [] q = way-nil t
   is-way [] (e ∷ w) q = absurd (true≢false (sym q))
@@ -106,7 +106,7 @@ module _ (t : Table) where
       let here = and-parts (serves t e (n .role)) (not (elemb e w)) (parts .0) in
       way-cons t n ns e w (here .0) (never-in e w (not-true (elemb e w) (here .1))) (is-way ns w (parts .1))
 
-  way-is : (ns : List Need) (w : List ℕ) → Way t ns w → isWay t ns w ≡ true
+  pub way-is : (ns : List Need) (w : List ℕ) → Way t ns w → isWay t ns w ≡ true
   unfolding isWay
   way-is [] [] h = refl
   way-is [] (e ∷ w) h = absurd (let q = h .as-long in omega arith)

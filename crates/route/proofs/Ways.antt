@@ -15,7 +15,7 @@ use Rattle.route.specs.passes.Search.{mayHave, takenBy, foundWay}
 use Rattle.route.proofs.Search.{First, Given, first-same, search-first}
 
 -- ---- one entry
-free-of : (b x : Bool) → b && not x ≡ true → (b ≡ true) × (x ≡ false)
+pub free-of : (b x : Bool) → b && not x ≡ true → (b ≡ true) × (x ≡ false)
 free-of true true q = absurd (true≢false (sym q))
 free-of true false q = (refl, refl)
 free-of false x q = absurd (true≢false (sym q))
@@ -26,7 +26,7 @@ served-low [] e r q = absurd (true≢false (sym q))
 served-low (x ∷ t) zero r q = omega arith
 served-low (x ∷ t) (suc e) r q = let h = served-low t e r q in omega arith
 
-abbrev Free : List Bool → ℕ → Type 0
+abbrev pub Free : List Bool → ℕ → Type 0
 Free taken e = getD taken e true ≡ false
 
 -- what is past the end counts as taken
@@ -36,7 +36,7 @@ free-low (x ∷ taken) zero q = omega arith
 free-low (x ∷ taken) (suc e) q = let h = free-low taken e q in omega arith
 
 -- an entry that is free once e is taken is another, and was free before
-free-before : (taken : List Bool) (e x : ℕ) → Free taken e → Free (set taken e true) x → (x ≡ e → ⊥) × Free taken x
+pub free-before : (taken : List Bool) (e x : ℕ) → Free taken e → Free (set taken e true) x → (x ≡ e → ⊥) × Free taken x
 free-before taken e x p q = (differs, sym (getD-set-other taken e x true true differs) ∙ q)
   where
     differs : x ≡ e → ⊥
@@ -77,13 +77,13 @@ module _ (t : Table) where
     }
 
 -- ---- to be given entry by entry is to be a way whose entries are free
-abbrev GivenFrom : Table → List Bool → List Need → List ℕ → Type 0
+abbrev pub GivenFrom : Table → List Bool → List Need → List ℕ → Type 0
 GivenFrom t = Given (mayHave t) takenBy (length t)
 
-abbrev AllFree : List Bool → List ℕ → Type 0
+abbrev pub AllFree : List Bool → List ℕ → Type 0
 AllFree taken w = (i : ℕ) → i < length w → Free taken (getD w i 0)
 
-given-way : (t : Table) (ns : List Need) (taken : List Bool) (w : List ℕ) → GivenFrom t taken ns w → Way t ns w × AllFree taken w
+pub given-way : (t : Table) (ns : List Need) (taken : List Bool) (w : List ℕ) → GivenFrom t taken ns w → Way t ns w × AllFree taken w
 given-way t [] taken [] b = (way-nil t, λ i h. absurd (not-suc-le-zero h))
 given-way t [] taken (e ∷ w) b = absurd b
 given-way t (n ∷ ns) taken [] b = absurd b
@@ -118,11 +118,11 @@ way-given t (n ∷ ns) taken (e ∷ w) p f = (
     rest : AllFree (set taken e true) w
     rest i h = getD-set-other taken e (getD w i 0) true true (λ q. way-own t n ns e w p i h (sym q)) ∙ f (suc i) (omega arith)
 
-abbrev none-taken : Table → List Bool
+abbrev pub none-taken : Table → List Bool
 none-taken t = replicate (length t) false
 
 module _ (t : Table) where
-  from-start : (ns : List Need) (w : List ℕ) → Way t ns w → GivenFrom t (none-taken t) ns w
+  pub from-start : (ns : List Need) (w : List ℕ) → Way t ns w → GivenFrom t (none-taken t) ns w
   from-start ns w p =
       way-given t ns (none-taken t) w p (λ i h. getD-replicate (length t) (getD w i 0) false true
       (served-low t (getD w i 0) (needAt ns i .role) (p .serving i (let k = p .as-long in omega arith))))

@@ -1,4 +1,4 @@
--- The answer that `place` gives from the first need on is the one that `first_way` promises. Assumes nothing.
+-- The answer that `place` gives from the first need on is the one that `first_way` promises, and so are its tries. Assumes nothing.
 use Prim.Native.Nat.{ℕ, zero, suc, _-_, _<_, _≤_}
 use mathlib.Core.Path.{_≡_, refl, sym, ap, _∙_}
 use mathlib.Core.Bool.{false}
@@ -11,9 +11,11 @@ use lib.Seq.{slice, sets, sets-eq, set-comm, take-all}
 use Rattle.route.specs.declared.Need.{Need}
 use Rattle.route.specs.Table.{Table, ENTRIES}
 use Rattle.route.specs.Way.{earliestWay}
-use Rattle.route.specs.passes.Search.{searchFrom, mayHave, takenBy, foundWay}
+use Rattle.route.specs.Tries.{tries}
+use Rattle.route.specs.passes.Search.{searchFrom, triesFrom, mayHave, takenBy, foundWay, triesMade}
 use Rattle.route.specs.passes.Partial.{put, routedFrom, routedOf}
 use Rattle.route.proofs.AllWays.{found-earliest, earliest-some}
+use Rattle.route.proofs.Tries.{made-tries}
 
 sets-set : (l : List ℕ) (i j a : ℕ) (w : List ℕ) → i < j → sets (set l i a) j w ≡ set (sets l j w) i a
 sets-set l i j a [] h = refl
@@ -52,6 +54,15 @@ module _ (t : Table) (needs : List Need) (n count : ℕ) (rows : length t ≡ EN
     where
       short : (w : List ℕ) → earliestWay t (take count needs) ≡ some w → length w ≤ 8
       short w q = omega (arith, earliest-some t (take count needs) w q .0 .as-long, length-take count needs)
+
+  -- and so are its tries
+  pub whole-tries : take n needs ≡ take count needs
+      → triesFrom (mayHave t) takenBy ENTRIES (replicate ENTRIES false) (slice 0 n needs) ≡ tries t (take count needs)
+  unfolding triesMade
+  whole-tries same =
+      ap (λ (size : ℕ). triesFrom (mayHave t) takenBy size (replicate size false) (take n needs)) (sym rows)
+      ∙ ap (triesMade t) same
+      ∙ made-tries t (take count needs)
 
 pub all-eight : (needs : List Need) (count : ℕ) → length needs ≡ 8 → 8 ≤ count → take 8 needs ≡ take count needs
 all-eight needs count l h = take-all 8 needs (omega arith) ∙ sym (take-all count needs (omega arith))

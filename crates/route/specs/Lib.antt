@@ -1,4 +1,5 @@
 pub mod Table
 pub mod Way
 pub mod Route
+pub mod Tries
 pub mod passes

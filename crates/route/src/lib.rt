@@ -5,7 +5,8 @@ ghost use Prim.Native.Nat.{_+_, _≤_, _<_};
 ghost use lib.Seq.{slice};
 ghost use Rattle.route.specs.Table.{ENTRIES, needList, noNeeds, withNeed};
 ghost use Rattle.route.specs.Way.{earliestWay};
-ghost use Rattle.route.specs.passes.Search.{searchFrom, mayHave, takenBy};
+ghost use Rattle.route.specs.Tries.{tries};
+ghost use Rattle.route.specs.passes.Search.{searchFrom, triesFrom, mayHave, takenBy};
 ghost use Rattle.route.specs.Route.{byteFor, eightBytes, labRouteOf};
 ghost use Rattle.route.specs.passes.Partial.{routedFrom, routedOf};
 
@@ -31,6 +32,18 @@ pub struct Routed {
 pub struct LabRoute {
     pub found: bool,
     pub bytes: [u8; 8],
+}
+
+// What a search found, and how many tries it made.
+pub struct WaySearch {
+    pub way: Routed,
+    pub tries: u32,
+}
+
+// The route of a LAB, and how many tries the search for it made.
+pub struct RouteSearch {
+    pub route: LabRoute,
+    pub tries: u32,
 }
 
 // How many control entries a LAB has at most.
@@ -85,44 +98,58 @@ fn may_have(table: EntryTable, taken: [bool; ENTRIES], need: Need, e: usize) -> 
     false
 }
 
-// The earliest way for the needs from `at` to n that gives no taken entry. The needs that remain are one fewer at each call.
-fn place(table: EntryTable, needs: [Need; 8], n: usize, at: usize, taken: [bool; ENTRIES]) -> Routed
+// The earliest way for the needs from `at` to n that gives no taken entry, and the tries. The needs that remain are one fewer at each call.
+fn place(
+    table: EntryTable,
+    needs: [Need; 8],
+    n: usize,
+    at: usize,
+    taken: [bool; ENTRIES],
+) -> WaySearch
     requires { ⌜ (at ≤ n) × (n ≤ 8) ⌝ }
-    ensures { λ r. ⌜ r ≡ routedFrom at (searchFrom (mayHave table) takenBy ENTRIES taken (slice at n needs)) ⌝ }
+    ensures found { λ r. ⌜ r .way ≡ routedFrom at (searchFrom (mayHave table) takenBy ENTRIES taken (slice at n needs)) ⌝ }
+    ensures counted { λ r. ⌜ r .tries ≡ triesFrom (mayHave table) takenBy ENTRIES taken (slice at n needs) ⌝ }
 {
     if at == n {
-        return Routed {
+        let way = Routed {
             found: true,
             entries: [255u8; 8],
         };
+        return WaySearch { way, tries: 0 };
     }
     let need = needs[at];
+    let mut tries: u32 = 0;
     let mut e: usize = 0;
     while e < ENTRIES {
         if may_have(table, taken, need, e) {
             let mut more = taken;
             more[e] = true;
             let r = place(table, needs, n, at + 1, more);
-            if r.found {
-                let mut entries = r.entries;
+            tries = tries + 1 + r.tries;
+            let rest = r.way;
+            if rest.found {
+                let mut entries = rest.entries;
                 entries[at] = e as u8;
-                return Routed {
+                let way = Routed {
                     found: true,
                     entries,
                 };
+                return WaySearch { way, tries };
             }
         }
         e += 1;
     }
-    Routed {
+    let way = Routed {
         found: false,
         entries: [255u8; 8],
-    }
+    };
+    WaySearch { way, tries }
 }
 
-// The earliest way for a LAB's needs.
-pub fn first_way(table: EntryTable, needs: Needs) -> Routed
-    ensures { λ r. ⌜ r ≡ routedOf (earliestWay table (needList needs)) ⌝ }
+// The earliest way for a LAB's needs, and the tries.
+pub fn first_way(table: EntryTable, needs: Needs) -> WaySearch
+    ensures found { λ r. ⌜ r .way ≡ routedOf (earliestWay table (needList needs)) ⌝ }
+    ensures counted { λ r. ⌜ r .tries ≡ tries table (needList needs) ⌝ }
 {
     let taken = [false; ENTRIES];
     let list = needs.list;
@@ -173,25 +200,31 @@ fn eight_bytes(needs: Needs, entries: [u8; 8]) -> [u8; 8]
     ]
 }
 
-// Whether a LAB with these needs has a way, and its eight route bytes.
-pub fn lab_route(table: EntryTable, needs: Needs) -> LabRoute
-    ensures { λ r. ⌜ r ≡ labRouteOf (needList needs) (earliestWay table (needList needs)) ⌝ }
+// Whether a LAB with these needs has a way, its eight route bytes, and the tries.
+pub fn lab_route(table: EntryTable, needs: Needs) -> RouteSearch
+    ensures found { λ r. ⌜ r .route ≡ labRouteOf (needList needs) (earliestWay table (needList needs)) ⌝ }
+    ensures counted { λ r. ⌜ r .tries ≡ tries table (needList needs) ⌝ }
 {
     let count = needs.count;
     if count == 0 {
-        return LabRoute {
+        let route = LabRoute {
             found: true,
             bytes: [255u8; 8],
         };
+        return RouteSearch { route, tries: 0 };
     }
-    let way = first_way(table, needs);
+    let search = first_way(table, needs);
+    let way = search.way;
+    let tries = search.tries;
     if way.found {
         let entries = way.entries;
         let bytes = eight_bytes(needs, entries);
-        return LabRoute { found: true, bytes };
+        let route = LabRoute { found: true, bytes };
+        return RouteSearch { route, tries };
     }
-    LabRoute {
+    let route = LabRoute {
         found: false,
         bytes: [255u8; 8],
-    }
+    };
+    RouteSearch { route, tries }
 }

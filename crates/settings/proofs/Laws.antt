@@ -40,9 +40,12 @@ settings-high s =
     (λ _. omega arith, (λ _. omega arith, (λ _. omega arith, (λ _. omega arith, (λ _. omega arith, (λ _. omega arith, tt))))))
 
 -- a sheet that passes has at most eight rows, so the eight that the search takes serve the same
-pub same-table : (s : List ℕ) → settingsNumber s ≡ 0 → SameServed (eightRows (tableOf s)) (tableOf s)
+pub table-rows : (s : List ℕ) → settingsNumber s ≡ 0 → length (tableOf s) ≤ ENTRIES
 unfolding tableOf
-same-table s h = rows-serve (tableOf s) (rw (length-map, length-take) (omega (arith, passed s h .few)))
+table-rows s h = rw (length-map, length-take) (omega (arith, passed s h .few))
+
+pub same-table : (s : List ℕ) → settingsNumber s ≡ 0 → SameServed (eightRows (tableOf s)) (tableOf s)
+same-table s h = rows-serve (tableOf s) (table-rows s h)
 
 pub house : House
 unfolding houseSettings settingsNumber wrongMark wrongSettingsLength otherFlags tableOf houseBoard

@@ -5,7 +5,7 @@ use mathlib.Core.Bool.{Bool, true, false, _&&_, _||_, or-assoc, or-false, or-tru
 use mathlib.Core.List.{List, [], _∷_, _++_, map, append-assoc, append-nil, map-append}
 use native.Mathlib.Nat.{zero-add}
 use native.Mathlib.Omega.{arith}
-use lib.ListN.{length, getD, set, drop, replicate, length-map}
+use lib.ListN.{length, getD, set, drop, replicate, length-map, List·getD-map}
 use lib.Seq.{sets, sets-eq}
 use lib.Dec.{eqb}
 use borrow.Author.Tests.{eqb-true, eqb-false, eq-eqb, ne-eqb}
@@ -138,6 +138,11 @@ from-at b (suc n) (suc i) h = from-at (suc b) n i (omega arith) ∙ omega arith
 
 pub below-at : (n i : ℕ) → i < n → getD (below n) i 0 ≡ i
 below-at n i h = from-at 0 n i h ∙ omega arith
+
+-- what a table of the numbers below n has at i
+pub table-at : {A : Type 0} (g : ℕ → A) (d : A) (n i : ℕ) → i < n → getD (map g (below n)) i d ≡ g i
+table-at g d n i h =
+    getD-within (map g (below n)) i d (g 0) (rw (table-length g n) h) ∙ List·getD-map g (below n) i 0 ∙ ap g (below-at n i h)
 
 -- a test of all elements, by their numbers
 any-shift : (f : ℕ → Bool) (i k : ℕ) → anyb f (from (suc i) k) ≡ anyb (λ j. f (suc j)) (from i k)

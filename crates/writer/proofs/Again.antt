@@ -5,11 +5,10 @@ use mathlib.Core.Path.{_≡_, refl, sym, ap, _∙_}
 use mathlib.Core.List.{List, [], _∷_, _++_, map}
 use native.Mathlib.Nat.{mul-zero, mul-suc, add-comm}
 use native.Mathlib.Omega.{arith}
-use lib.ListN.{length, getD, take, drop, length-drop, take-append-drop, List·getD-map}
+use lib.ListN.{length, getD, take, drop, length-drop, take-append-drop}
 use lib.Seq.{length-take-le, take-all, take-add, drop-drop, getD-take, getD-drop, take-append-seam, drop-append-seam}
 use Rattle.sheet.specs.Lists.{concatMap, Every, from, below}
 use Rattle.sheet.specs.Bytes.{byteAt, AllBytes}
-use Rattle.sheet.proofs.Lists.{getD-within, table-length, below-at}
 use Rattle.writer.specs.Laws.{Format, TwoLaws}
 
 -- ---- lists
@@ -28,10 +27,6 @@ module _ {A : Type 0} (g : ℕ → A) where
 
   pub table-is : (d : A) (xs : List A) → ((i : ℕ) → i < length xs → g i ≡ getD xs i d) → map g (below (length xs)) ≡ xs
   table-is d xs h = table-from d 0 xs (λ i l. ap g (omega arith) ∙ h i l)
-
-  pub table-at : (d : A) (n i : ℕ) → i < n → getD (map g (below n)) i d ≡ g i
-  table-at d n i l =
-      getD-within (map g (below n)) i d (g 0) (rw (table-length g n) l) ∙ List·getD-map g (below n) i 0 ∙ ap g (below-at n i l)
 
 pub bytes-front : (s : List ℕ) (n : ℕ) → n ≤ length s → map (byteAt s) (below n) ≡ take n s
 bytes-front s n h =

@@ -20,11 +20,14 @@ returns : tie.Need-returns
 returns c =
     let sheet = c .before .before .before in
     let number = sheet .before .before .before .before in
-    let v = number .before .before .before .before .judge-sheets in (
-      v .ensures .1,
-      seven _ (v .result) _ _ _ _ _ _ _ (v .ensures .0)
-          (number .wide8 .ensures) (c .before .before .before .before .before .before .wide16 .ensures) (c .before .before .before .before .before .wide162 .ensures)
-          (c .before .before .before .before .wide32 .ensures) (sheet .sheet-number .ensures) (c .before .before .wide .ensures) (c .before .wide2 .ensures),
+    let v = number .before .before .before .before .before .before .judge-sheets in (
+      v .ensures .1 .0,
+      (
+        v .ensures .1 .1,
+        seven _ (v .result) _ _ _ _ _ _ _ (v .ensures .0)
+            (number .wide8 .ensures) (c .before .before .before .before .before .before .wide16 .ensures) (c .before .before .before .before .before .wide162 .ensures)
+            (c .before .before .before .before .wide32 .ensures) (sheet .sheet-number .ensures) (c .before .before .wide .ensures) (c .before .wide2 .ensures),
+      ),
     )
 
 pub nurimkkot-judge-spec : {M : Type 1} → statement M
@@ -40,4 +43,5 @@ nurimkkot-judge-spec =
     (λ c κs. search needs)  -- wide-requires
     (λ c κs. search needs)  -- wide-requires-2
     (λ c. search needs)  -- same-length
+    (λ c. search needs)  -- same-length-2
     returns)

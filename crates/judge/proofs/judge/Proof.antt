@@ -8,11 +8,12 @@ use Rattle.judge.proofs.judge.Tie as tie
 returns : tie.Need-returns
 returns c =
     let told = c .before .before in
-    let v = told .before .before .before .before .before .judge-sheets in
-    let s = told .before .before .before .before .before .before .before .before .before .before .before .args in
-    handed-out (now (s .settings)) (now (s .exercise)) (now (s .answer)) (now (s .route)) (v .last .1 .1 .1 .0) (v .result)
+    let j = told .before .before .before .before .before .before .before in
+    let v = j .judge-sheets in
+    let s = j .before .before .before .before .before .before .before .before .args in
+    handed-out (now (s .settings)) (now (s .exercise)) (now (s .answer)) (now (s .route)) (v .last .1 .1 .1 .0) (now (s .tries)) (v .last .1 .1 .1 .1 .0) (v .result)
     (now (c .part-of .result)) (s .exercise .ptr) (s .answer .ptr) (c .part-of .result .ptr) _ _ _
-    (v .ensures .0) (v .ensures .1) (c .part-of .ensures .0) (c .part-of .ensures .1)
+    (v .ensures .0) (v .ensures .1 .0) (v .ensures .1 .1) (c .part-of .ensures .0) (c .part-of .ensures .1)
     (told .before .before .wide8 .ensures) (told .before .wide16 .ensures) (told .wide162 .ensures)
 
 pub judge-spec : {M : Type 1} → statement M
@@ -25,4 +26,5 @@ judge-spec =
     (λ c κs. search needs)  -- wide16-requires-2
     (λ c κs. search needs)  -- part-of-requires
     (λ c. search needs)  -- same-length
+    (λ c. search needs)  -- same-length-2
     returns)

@@ -1,40 +1,41 @@
--- The rows are copied to the route buffer only where no LAB is broken.
+-- The rows go to the route buffer and the tries to the lent list, by the number that is found.
 use denote.Ref.{now}
-use native.Mathlib.Omega.{arith}
 use mathlib.Core.Path.{sym, _∙_}
-use Rattle.judge.proofs.Preparing.{rows-size, route-stays, route-goes}
+use Rattle.judge.proofs.Preparing.{rows-size, tries-size, labs-handed}
 use borrow.Author.Needs.{needs}
 use Rattle.judge.proofs.judge_labs.Statement.{statement}
 use Rattle.judge.proofs.judge_labs.Tie as tie
 
+hand-route-requires : tie.Need-hand-route-requires
+hand-route-requires c κs =
+    let l = c .before .before in
+    let s = l .before .before .before .before .before .before .before in
+    sym (rows-size (s .args .table) (now (s .args .exercise)) (now (s .args .answer)) _ (l .lab-finding .ensures .1 .0)) ∙ sym (s .pre .0)
+
+hand-tries-requires : tie.Need-hand-tries-requires
+hand-tries-requires c κs =
+    let l = c .before .before .before .before .before .before .before in
+    let s = l .before .before .before .before .before .before .before in
+    sym (tries-size (s .args .table) (now (s .args .exercise)) (now (s .args .answer)) _ (l .lab-finding .ensures .1 .1)) ∙ sym (s .pre .1)
+
 returns : tie.Need-returns
 returns c =
-    let l = c .before .before in
-    let s = l .before .before .before .before .before in
-    route-stays (s .args .table) (now (s .args .exercise)) (now (s .args .answer)) (now (s .args .route)) _ (l .lab-finding .ensures .0) (λ z. omega (arith, z, c .if1 .taken))
-
-copy-requires : tie.Need-copy-requires
-copy-requires c κs =
-    let l = c .before .before .before .before in
-    let s = l .before .before .before .before .before in
-    sym (rows-size (s .args .table) (now (s .args .exercise)) (now (s .args .answer)) _ (l .lab-finding .ensures .1)) ∙ sym (s .pre)
-
-returns-2 : tie.Need-returns-2
-returns-2 c =
-    let o = c .before .before in
-    let i = o .before .before .before in
-    let l = i .before .before in
-    let s = l .before .before .before .before .before in
-    route-goes (s .args .table) (now (s .args .exercise)) (now (s .args .answer)) (now (s .args .route)) _ (l .lab-finding .ensures .0) _ _ (omega (arith, i .if1 .left))
-    (l .lab-finding .ensures .1) (o .copy .ensures)
+    let t = c .before .before in
+    let r = t .before .before .before .before .before in
+    let l = r .before .before .before in
+    let s = l .before .before .before .before .before .before .before in
+    labs-handed (s .args .table) (now (s .args .exercise)) (now (s .args .answer)) _ (l .lab-finding .ensures .0) _ _ (l .lab-finding .ensures .1 .0)
+    (l .lab-finding .ensures .1 .1) (now (s .args .route)) _ (r .hand-route .ensures) (now (s .args .tries)) _ (t .hand-tries .ensures)
 
 pub judge-labs-spec : {M : Type 1} → statement M
 judge-labs-spec =
     tie.close
     (tie.spec
     (λ c κs. search needs)  -- lab-finding-requires
-    returns
-    (λ c. rows-size _ _ _ _ (c .before .before .before .lab-finding .ensures .1))  -- slice-aggregate-copy
-    copy-requires
+    (λ c. rows-size _ _ _ _ (c .before .lab-finding .ensures .1 .0))  -- slice-aggregate-hand-route
+    hand-route-requires
+    (λ c. tries-size _ _ _ _ (c .before .before .before .before .before .before .lab-finding .ensures .1 .1))  -- slice-aggregate-hand-tries
+    hand-tries-requires
     (λ c. search needs)  -- same-length
-    returns-2)
+    (λ c. search needs)  -- same-length-2
+    returns)

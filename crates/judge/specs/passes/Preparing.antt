@@ -11,7 +11,7 @@ use Rattle.exercise.specs.passes.Known.{knownAt}
 use Rattle.route.specs.Table.{Table}
 use Rattle.tables.specs.passes.Tables.{driversBelow}
 use Rattle.lab_pass.specs.passes.Links.{Links, linkBelow}
-use Rattle.lab_pass.specs.passes.Results.{resultAt, lowestBroken, hasCells, putRows}
+use Rattle.lab_pass.specs.passes.Results.{resultAt, triesAt, lowestBroken, hasCells, putRows, putTries, searchedLabs}
 use Rattle.judge.specs.declared.Finding.{Finding}
 use Rattle.judge.specs.declared.Prepared.{Prepared}
 use Rattle.judge.specs.Judge.{settingsGroup, exerciseGroup, answerGroup, cellGroup, firstBroken}
@@ -59,6 +59,14 @@ rowsOfLabs t e a rows =
     rows
     (lowestBroken t (knownAt e) (linked a (cellCount e) .first) (linked a (cellCount e) .next) .lab)
 
--- all numbers but 1
+-- the tries of the occupied LABs up to the first broken one, put into the list
+unfoldable pub triesOfLabs : Table → List ℕ → List ℕ → List ℕ → List ℕ
+triesOfLabs t e a list =
+    putTries (hasCells (linked a (cellCount e) .first) (linked a (cellCount e) .next))
+    (triesAt t (knownAt e) (linked a (cellCount e) .first) (linked a (cellCount e) .next))
+    list
+    (searchedLabs (lowestBroken t (knownAt e) (linked a (cellCount e) .first) (linked a (cellCount e) .next) .lab))
+
+-- all numbers but 1 and 3
 unfoldable pub foundFrom : Table → Prepared → List ℕ → List ℕ → List ℕ → Finding
 foundFrom t p ds e a = then (foundTo51 p ds e a) (foundInLabs t e a)

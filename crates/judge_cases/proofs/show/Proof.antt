@@ -1,4 +1,4 @@
--- `judge_cases::show` is safe: the route buffer has room for the length that is asked for.
+-- `judge_cases::show` is safe: the route buffer and the list of tries have room for the lengths that are asked for.
 use lib.ListN.{length-take, length-replicate}
 use native.Mathlib.Omega.{arith}
 use borrow.Author.Needs.{needs}
@@ -11,6 +11,8 @@ show-spec =
     (tie.spec
     (λ c. search needs)  -- array-borrow-prefix-route
     (λ c. simp (length-take, length-replicate) (omega arith))  -- slice-aggregate-judge
+    (λ c. search needs)  -- array-borrow-prefix-tries
+    (λ c. simp (length-take, length-replicate) (omega arith))  -- slice-aggregate-judge-2
     (λ c κs. search needs)  -- judge-requires
     (λ c κs. search needs)  -- verdict-requires
     (λ c. search needs)  -- slice-aggregate-word

@@ -1,4 +1,4 @@
--- The result of each LAB from the lists of cells, and the rows of route bytes. `t` is the entry table, `cell` gives what each
+-- The result and the tries of each LAB from the lists of cells, the rows of route bytes and the list of tries. `t` is the entry table, `cell` gives what each
 -- cell's record says. Assumes nothing.
 use Prim.Native.Nat.{ℕ, zero, suc, _+_, _*_}
 use mathlib.Core.Path.{_≡_}
@@ -12,8 +12,9 @@ use Rattle.distinct.specs.declared.LabMarks.{LabMarks}
 use Rattle.distinct.specs.passes.Marks.{Marking}
 use Rattle.route.specs.Table.{Table}
 use Rattle.lab_nets.specs.passes.Uses.{markCells, netsWithin}
-use Rattle.lab_rules.specs.passes.Counts.{noCounts, countsAll, resultFrom}
+use Rattle.lab_rules.specs.passes.Counts.{noCounts, countsAll, searched}
 use Rattle.lab_rules.specs.declared.LabResult.{LabResult}
+use Rattle.lab_rules.specs.declared.LabSearch.{LabSearch}
 use Rattle.lab_rules.specs.declared.Counts.{Counts}
 use Rattle.distinct.specs.declared.UpToTwo.{UpToTwo}
 use Rattle.sheet.specs.Checks.{NONE}
@@ -21,10 +22,10 @@ use Rattle.lab_pass.specs.passes.Links.{walk}
 use Rattle.lab_pass.specs.declared.LowestBroken.{LowestBroken}
 use Rattle.lab_pass.specs.declared.Counted.{Counted}
 
--- the result of a LAB with these cells, handed over one by one
-unfoldable pub resultOf : Table → (ℕ → Record) → List ℕ → LabResult
-resultOf t cell is =
-    resultFrom t (countsAll noCounts (map cell is)) (length (netsWithin (map cell is)))
+-- the result and the tries of a LAB with these cells, handed over one by one
+unfoldable pub searchOf : Table → (ℕ → Record) → List ℕ → LabSearch
+searchOf t cell is =
+    searched t (countsAll noCounts (map cell is)) (length (netsWithin (map cell is)))
 
 -- the two marks of LAB l
 unfoldable pub marksOf : ℕ → LabMarks
@@ -36,7 +37,7 @@ markedIf b l m cs = cond b (markCells l m cs) m
 
 -- the counts and the number of nets say of a list of cells, on any board, what the cells handed over one by one say
 pub record Tells (cell : ℕ → Record) (is : List ℕ) (k : Counts) (nets : ℕ) : Type 0 where
-  pub told : (t : Table) → resultFrom t k nets ≡ resultOf t cell is
+  pub told : (t : Table) → searched t k nets ≡ searchOf t cell is
 
 -- two counters, all counters, and the nets in too, hold the same
 unfoldable pub sameCodes : UpToTwo → UpToTwo → Bool
@@ -50,9 +51,15 @@ sameCounts a b =
 unfoldable pub sameCounted : Counted → Counted → Bool
 sameCounted a b = sameCounts (a .counts) (b .counts) && eqb (a .nets) (b .nets)
 
--- the result of LAB l
-unfoldable pub resultAt : Table → (ℕ → Record) → List ℕ → List ℕ → ℕ → LabResult
-resultAt t cell first next l = resultOf t cell (walk next (getD first l NONE) 512)
+-- the result and the tries of LAB l
+unfoldable pub searchAt : Table → (ℕ → Record) → List ℕ → List ℕ → ℕ → LabSearch
+searchAt t cell first next l = searchOf t cell (walk next (getD first l NONE) 512)
+
+abbrev pub resultAt : Table → (ℕ → Record) → List ℕ → List ℕ → ℕ → LabResult
+resultAt t cell first next l = searchAt t cell first next l .result
+
+abbrev pub triesAt : Table → (ℕ → Record) → List ℕ → List ℕ → ℕ → ℕ
+triesAt t cell first next l = searchAt t cell first next l .tries
 
 -- LAB l breaks one of 60 to 65
 unfoldable pub brokenLab : Table → (ℕ → Record) → List ℕ → List ℕ → ℕ → Bool
@@ -79,3 +86,12 @@ putRow rows l b =
 unfoldable pub putRows : (ℕ → Bool) → (ℕ → List ℕ) → List ℕ → ℕ → List ℕ
 putRows some bytes rows zero = rows
 putRows some bytes rows (suc k) = cond (some k) (putRow (putRows some bytes rows k) k (bytes k)) (putRows some bytes rows k)
+
+-- the tries of those LABs below k that pass a test, put into the list
+unfoldable pub putTries : (ℕ → Bool) → (ℕ → ℕ) → List ℕ → ℕ → List ℕ
+putTries some tries list zero = list
+putTries some tries list (suc k) = cond (some k) (set (putTries some tries list k) k (tries k)) (putTries some tries list k)
+
+-- how many LABs the pass has searched where it stops at LAB l: up to that one, or all
+abbrev pub searchedLabs : ℕ → ℕ
+searchedLabs l = cond (ltb l 1024) (l + 1) l

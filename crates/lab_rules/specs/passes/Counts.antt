@@ -21,9 +21,11 @@ use Rattle.route.specs.declared.Needs.{Needs}
 use Rattle.route.specs.Table.{withNeed, Table, CLK, ENA, ACLR, SCLR, SLOAD}
 use Rattle.route.specs.Way.{earliestWay}
 use Rattle.route.specs.Route.{labRouteOf}
+use Rattle.route.specs.Tries.{tries}
 use Rattle.lab_nets.specs.NetsIn.{inputs}
 use Rattle.lab_rules.specs.declared.Counts.{Counts}
 use Rattle.lab_rules.specs.declared.LabResult.{LabResult}
+use Rattle.lab_rules.specs.declared.LabSearch.{LabSearch}
 use Rattle.lab_rules.specs.Ports.{clk, ena, clock, clockPair, clear, synchronous, needed, ofRegister, inLab}
 use Rattle.lab_rules.specs.Rules.{MAX_NETS_IN, needsOfRole}
 
@@ -106,6 +108,14 @@ unfoldable pub resultFrom : Table → Counts → ℕ → LabResult
 resultFrom t k nets =
     cond (eqb (brokenBy k nets) 0) (routedResult (labRouteOf (needsHeld k) (earliestWay t (needsHeld k))))
     (refused (brokenBy k nets))
+
+-- the tries of a LAB from its counts and its number of nets: none where it breaks one of 60 to 64
+unfoldable pub triesFor : Table → Counts → ℕ → ℕ
+triesFor t k nets = cond (eqb (brokenBy k nets) 0) (tries t (needsHeld k)) 0
+
+-- both
+unfoldable pub searched : Table → Counts → ℕ → LabSearch
+searched t k nets = record { result = resultFrom t k nets; tries = triesFor t k nets }
 
 -- what 15 (at no more than 1,024 nets) and 34 say of a cell: its signals are small, and an enable has a clock
 pub record Fit (c : Record) : Type 0 where

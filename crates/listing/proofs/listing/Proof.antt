@@ -8,8 +8,8 @@ use Rattle.listing.proofs.listing.Tie as tie
 returns : tie.Need-returns
 returns c =
     let line = c .before .before .before .before in
-    let judged = line .before .before .before in
-    let args = judged .before .before .before .before .before .before .args in
+    let judged = line .before .before .before .before in
+    let args = judged .before .before .before .before .before .before .before .args in
     refused (now (args .settings)) (now (args .exercise)) (now (args .answer)) (judged .judge-sheets .result) (judged .judge-sheets .ensures .0)
     (line .verdict-line .ensures) (c .if1 .taken)
 
@@ -19,10 +19,10 @@ returns-2 c =
     let marks = lines .before .before .before .before .before in
     let cells = marks .before .before in
     let line = cells .before .before .before .before .before in
-    let judged = line .before .before .before in
-    let args = judged .before .before .before .before .before .before .args in
+    let judged = line .before .before .before .before in
+    let args = judged .before .before .before .before .before .before .before .args in
     legal (now (args .settings)) (now (args .exercise)) (now (args .answer)) (judged .judge-sheets .result) (judged .judge-sheets .ensures .0)
-    (line .verdict-line .ensures) _ _ _ (cells .before .if1 .left) (judged .judge-sheets .ensures .1) (cells .cell-count .ensures)
+    (line .verdict-line .ensures) _ _ _ (cells .before .if1 .left) (judged .judge-sheets .ensures .1 .0) (cells .cell-count .ensures)
     (marks .mark-labs .ensures) (lines .lab-lines .ensures)
 
 pub listing-spec : {M : Type 1} → statement M
@@ -30,6 +30,7 @@ listing-spec =
     tie.close
     (tie.spec
     (λ c. search needs)  -- slice-aggregate-judge-sheets
+    (λ c. search needs)  -- slice-aggregate-judge-sheets-2
     (λ c κs. search needs)  -- judge-sheets-requires
     (λ c κs. search needs)  -- verdict-line-requires
     (λ c. search needs)  -- same-length

@@ -4,7 +4,7 @@ use mathlib.Core.Path.{_≡_, refl, _∙_}
 use borrow.Author.Needs.{needs}
 use native.Mathlib.Omega.{arith}
 use lib.ListN.{length, length-map}
-use Rattle.route.proofs.Whole.{whole, all-eight}
+use Rattle.route.proofs.Whole.{whole, whole-tries, all-eight}
 use Rattle.route.proofs.first_way.Statement.{statement}
 use Rattle.route.proofs.first_way.Tie as tie
 
@@ -13,14 +13,19 @@ returns c =
     let s = c .before .before .before in
     let n = s .args .needs in
     let eight : length (n .list) ≡ 8 = simp length-map at (s .good .1 .0 .1 .1 .1 .0 .1 .0 .1) in
-    c .place .ensures ∙ whole (s .args .table) (n .list) 8 (n .count) (s .good .0 .1 .0 .1) eight (all-eight (n .list) (n .count) eight (omega arith))
+    let all = all-eight (n .list) (n .count) eight (omega arith) in (
+      c .place .ensures .0 ∙ whole (s .args .table) (n .list) 8 (n .count) (s .good .0 .1 .0 .1) eight all,
+      c .place .ensures .1 ∙ whole-tries (s .args .table) (n .list) 8 (n .count) (s .good .0 .1 .0 .1) eight all,
+    )
 
 returns-2 : tie.Need-returns-2
 returns-2 c =
     let s = c .before .before .before in
     let n = s .args .needs in
-    let eight : length (n .list) ≡ 8 = simp length-map at (s .good .1 .0 .1 .1 .1 .0 .1 .0 .1) in
-    c .place2 .ensures ∙ whole (s .args .table) (n .list) (n .count) (n .count) (s .good .0 .1 .0 .1) eight refl
+    let eight : length (n .list) ≡ 8 = simp length-map at (s .good .1 .0 .1 .1 .1 .0 .1 .0 .1) in (
+      c .place2 .ensures .0 ∙ whole (s .args .table) (n .list) (n .count) (n .count) (s .good .0 .1 .0 .1) eight refl,
+      c .place2 .ensures .1 ∙ whole-tries (s .args .table) (n .list) (n .count) (n .count) (s .good .0 .1 .0 .1) eight refl,
+    )
 
 pub first-way-spec : {M : Type 1} → statement M
 first-way-spec =
