@@ -5,6 +5,7 @@ import subprocess
 
 import page_commands
 import paper
+import shared
 import tries
 
 
@@ -29,7 +30,7 @@ def help_text(place):
 
 def limits(place):
     """The script's numbers are those of the header."""
-    place.has_limits(ROUTE_SIZE=len(tries.LENT_ROUTE), NO_ENTRY=tries.NO_ENTRY, NONE=tries.NONE)
+    place.has_limits(ROUTE_SIZE=len(tries.LENT_ROUTE), TRIES=shared.TRIES, NO_ENTRY=tries.NO_ENTRY, NONE=tries.NONE)
 
 
 def by_hand(place, text):

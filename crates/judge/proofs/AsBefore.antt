@@ -1,17 +1,14 @@
 -- The supplied settings sheet passes 70 to 75, so its checks are passed over, and the table on it is document 01's. Assumes nothing.
 use Prim.Native.Nat.{ℕ}
-use mathlib.Core.Path.{_≡_, refl, _∙_}
+use mathlib.Core.Path.{_≡_, refl}
 use mathlib.Core.Bool.{not}
 use mathlib.Core.List.{List, _∷_, _++_}
 use lib.Dec.{eqb}
-use Rattle.sheet.specs.Lists.{concatMap, below}
 use Rattle.sheet.specs.Header.{wrongMark}
-use Rattle.route.specs.Table.{Table}
 use Rattle.settings.specs.Settings.{wrongSettingsLength, otherFlags}
 use Rattle.settings.specs.House.{houseSettings}
 use Rattle.settings.proofs.Laws.{house}
-use Rattle.lab_rules.specs.Rules.{labChecks}
-use Rattle.judge.specs.Judge.{Check, check, ofLab, labCells, roomChecks, settingsGroup, sheetChecks, labGroup, checksTo51, checks, firstBroken, verdictOf, judged, routeBytes, routed}
+use Rattle.judge.specs.Judge.{Check, check, roomChecks, settingsGroup, sheetChecks, labGroup, checksTo51, checks, firstBroken, judged, routeBytes, routed}
 use Rattle.judge.specs.AsBefore.{AsBefore, onHouse, checksOf01, judgedBy01, routedBy01}
 
 -- 3, 70 to 75

@@ -9,7 +9,6 @@ use borrow.Author.Tests.{eqb-true}
 use borrow.Author.Needs.{needs}
 use Rattle.sheet.specs.Lists.{Every, concatMap, elemb, below}
 use Rattle.exercise.specs.Exercise.{exerciseChecks}
-use Rattle.settings.specs.Settings.{settingsChecks}
 use Rattle.sheet.proofs.Laws.{by-test}
 use Rattle.exercise.specs.declared.Record.{Record}
 use Rattle.exercise.specs.declared.Record.the-variants.{Combinational, Register, Malformed}

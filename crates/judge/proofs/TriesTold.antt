@@ -1,21 +1,19 @@
 -- What stands in the list of tries on 0 and 65: the tries of each LAB up to a refused one, 0 above it and for an empty LAB, and no more than 109,600.
 -- Assumes nothing.
-use Prim.Native.Nat.{ℕ, zero, suc, _+_, _<_, _≤_}
-use mathlib.Core.Path.{_≡_, refl, sym, ap, _∙_}
-use mathlib.Core.Logic.{_⊎_, inl, inr, ⊎-elim}
-use mathlib.Core.Bool.{Bool, true, false, cond, _||_}
+use Prim.Native.Nat.{ℕ, _<_, _≤_}
+use mathlib.Core.Path.{_≡_, refl, ap, _∙_}
+use mathlib.Core.Logic.{inl, ⊎-elim}
+use mathlib.Core.Bool.{Bool, false}
 use mathlib.Core.List.{List, [], _∷_, map}
 use native.Mathlib.Nat.{eq-or-lt-of-le}
 use native.Mathlib.Omega.{arith}
-use lib.ListN.{length, getD, length-map}
+use lib.ListN.{length, getD}
 use lib.Dec.{eqb, ltb}
-use borrow.Author.Tests.{eqb-true, lt-ltb, le-ltb, ltb-true, ltb-false}
-use Rattle.sheet.specs.Lists.{below, filterb, anyb, elemb}
+use borrow.Author.Tests.{lt-ltb, le-ltb, ltb-true, ltb-false}
+use Rattle.sheet.specs.Lists.{below, filterb, anyb}
 use Rattle.sheet.specs.Checks.{NONE, firstNumber}
 use Rattle.sheet.proofs.Laws.{by-test, or-parts}
 use Rattle.sheet.proofs.Lists.{table-length, table-at}
-use Rattle.exercise.specs.Exercise.{cellCount}
-use Rattle.route.specs.Table.{Table}
 use Rattle.route.specs.Tries.{tries}
 use Rattle.route.proofs.Tries.{no-tries}
 use Rattle.route.proofs.Limit.{tries-most}
@@ -27,16 +25,13 @@ use Rattle.lab_rules.proofs.Needed.{needs-eight}
 use Rattle.tables.specs.Records.{cell, cellNumbers}
 use Rattle.placing.specs.Places.{labAt}
 use Rattle.lab_pass.specs.Members.{members}
-use Rattle.judge.specs.declared.Finding.{Finding}
-use Rattle.judge.specs.declared.Verdict.{Verdict}
 use Rattle.judge.specs.Call.{Call, inForce}
-use Rattle.judge.specs.Numbers.{searchedNumbers}
-use Rattle.judge.specs.Judge.{checks, checksTo51, labCells, occupied, judged, verdictOf, triesOf, tried, firstBroken}
+use Rattle.judge.specs.Judge.{checks, checksTo51, labCells, occupied, judged, verdictOf, triesOf, tried}
 use Rattle.judge.specs.Demands.{OneOf, AllHold, labNeeds, Keeps60to64}
 use Rattle.judge.specs.Tried.{TriesTold}
 use Rattle.judge.proofs.Broken.{hold-legal}
 use Rattle.judge.proofs.Held.{hold-number, legal-hold, to-51-holds, lab-holds}
-use Rattle.judge.proofs.Kept.{Kept, all-kept, settings-passed}
+use Rattle.judge.proofs.Kept.{all-kept, settings-passed}
 use Rattle.judge.proofs.FitCells.{lab-fit}
 use Rattle.judge.proofs.Refusal65.{refusal-65}
 use Rattle.judge.proofs.TriesFound.{one-of}

@@ -1,11 +1,10 @@
 -- What a settings sheet is that passes 70 to 75, and the supplied one. Assumes nothing.
-use Prim.Native.Nat.{ℕ, _+_, _≤_, min}
+use Prim.Native.Nat.{ℕ, _+_, _≤_}
 use native.Mathlib.Omega.{arith}
 use mathlib.Core.Path.{_≡_, refl}
 use mathlib.Core.Bool.{false}
 use mathlib.Core.List.{List}
 use lib.ListN.{length, length-map, length-take, length-drop}
-use lib.Dec.{ltb}
 use borrow.Author.Tests.{eqb-true, ltb-false, not-false}
 use Rattle.sheet.specs.Header.{wrongMark}
 use Rattle.sheet.proofs.Checks.{all-held, found}
