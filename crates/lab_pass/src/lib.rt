@@ -34,12 +34,6 @@ struct Counted {
     nets: u16,
 }
 
-// Counts and nets in, with the result and the tries of a LAB that has them.
-struct Solved {
-    counted: Counted,
-    search: LabSearch,
-}
-
 // Puts every cell into the list of its LAB, rising: `first` has a LAB's first cell, `next` the next cell of the same LAB.
 pub fn link_cells(answer: &[u8], cells: u16, first: &mut [u16], next: &mut [u16])
     ensures firsts { λ _. ⌜ now (first .exit) ≡ linkBelow (now (answer .entry)) (record { first = now (first .entry); next = now (next .entry) }) cells .first ⌝ }
@@ -212,16 +206,14 @@ fn same_counted(a: Counted, b: Counted) -> bool
 }
 
 // The result and the tries of a LAB: those of the LAB before where the counts and the nets in are the same.
-fn solve(table: EntryTable, counted: Counted, before: Solved) -> Solved
-    requires { ⌜ before .search ≡ searched table (before .counted .counts) (before .counted .nets) ⌝ }
-    ensures solved { λ r. ⌜ r .search ≡ searched table (counted .counts) (counted .nets) ⌝ }
-    ensures kept { λ r. ⌜ r .search ≡ searched table (r .counted .counts) (r .counted .nets) ⌝ }
+fn solve(table: EntryTable, counted: Counted, previous: Counted, known: LabSearch) -> LabSearch
+    requires { ⌜ known ≡ searched table (previous .counts) (previous .nets) ⌝ }
+    ensures { λ r. ⌜ r ≡ searched table (counted .counts) (counted .nets) ⌝ }
 {
-    if same_counted(counted, before.counted) {
-        return before;
+    if same_counted(counted, previous) {
+        return known;
     }
-    let search = lab_rules::lab_search(table, counted.counts, counted.nets);
-    Solved { counted, search }
+    lab_rules::lab_search(table, counted.counts, counted.nets)
 }
 
 // Puts a LAB's eight route bytes into the rows.
@@ -258,11 +250,8 @@ pub fn route_labs(
         counts: Counts::none(),
         nets: 0,
     };
-    let search = lab_rules::lab_search(table, idle.counts, 0);
-    let mut solved = Solved {
-        counted: idle,
-        search,
-    };
+    let mut previous = idle;
+    let mut search = lab_rules::lab_search(table, idle.counts, 0);
     let mut marks = [0u16; 1024];
     let mut lab: u16 = 0;
     while lab < LABS {
@@ -278,8 +267,8 @@ pub fn route_labs(
             lab += 1;
             continue;
         }
-        solved = solve(table, counted, solved);
-        let search = solved.search;
+        search = solve(table, counted, previous, search);
+        previous = counted;
         tries[lab as usize] = search.tries;
         let result = search.result;
         let number = result.number;

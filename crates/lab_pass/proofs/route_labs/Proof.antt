@@ -1,5 +1,5 @@
--- The loop's invariant: no LAB below `lab` is broken, the bytes and the tries of the occupied ones below are put, `solved` holds the result and the tries of its
--- counts and nets, and all marks are lower than those of `lab`.
+-- The loop's invariant: no LAB below `lab` is broken, the bytes and the tries of the occupied ones below are put, `search` holds the result and the tries of the
+-- `previous` counts and nets, and all marks are lower than those of `lab`.
 use mathlib.Core.Path.{_≡_, refl, _∙_}
 use Prim.Native.Nat.{_-_}
 use native.Mathlib.Omega.{arith}
@@ -15,12 +15,12 @@ use Rattle.lab_pass.proofs.route_labs.Statement.{statement}
 use Rattle.lab_pass.proofs.route_labs.Tie as tie
 
 abbrev Inv-loop : tie.InvT-loop
-Inv-loop table exercise first next rows₀ tries₀ idle solved₀ marks₀ lab₀ rows tries solved marks lab =
-    Passed table (knownAt exercise) first next rows₀ tries₀ rows tries lab × (solved .search ≡ searched table (solved .counted .counts) (solved .counted .nets))
+Inv-loop table exercise first next rows₀ tries₀ idle previous₀ search₀ marks₀ lab₀ rows tries previous search marks lab =
+    Passed table (knownAt exercise) first next rows₀ tries₀ rows tries lab × (search ≡ searched table (previous .counts) (previous .nets))
     × LowerThan lab marks
 
 abbrev μ-loop : tie.MeasureT-loop
-μ-loop table exercise first next rows₀ tries₀ idle solved₀ marks₀ lab₀ rows tries solved marks lab = 1024 - lab
+μ-loop table exercise first next rows₀ tries₀ idle previous₀ search₀ marks₀ lab₀ rows tries previous search marks lab = 1024 - lab
 
 pub route-labs-spec : {M : Type 1} → statement M
 route-labs-spec =
@@ -72,28 +72,28 @@ route-labs-spec =
     (λ c. search needs)  -- mul-tries-2
     (λ c. search needs)  -- element-write-tries-2
     (λ c.
-    let v = c .before .before .before in
+    let v = c .before .before in
     let f = v .before .before .before .before in
     let m = f .before .before in
     let i = m .before in
     let n = i .before in
     let l = n .before .before .loop in
-    pass-stops _ _ _ _ _ _ _ _ _ (l .inv .0) (omega (arith, n .before .loop-test .taken)) _ (n .entry .ensures) (i .if1 .left) (v .solve .result .search)
-    (v .solve .ensures .0 ∙ f .counted-from .ensures .0 .told _) (c .if3 .taken) _ refl)  -- returns
+    pass-stops _ _ _ _ _ _ _ _ _ (l .inv .0) (omega (arith, n .before .loop-test .taken)) _ (n .entry .ensures) (i .if1 .left) (v .solve .result)
+    (v .solve .ensures ∙ f .counted-from .ensures .0 .told _) (c .if3 .taken) _ refl)  -- returns
     (λ c κs. search needs)  -- put-row-requires-2
     (λ c. search needs)  -- add-lab-3
     (λ c. search needs)  -- loop-less-3
     (λ c.
     let t = c .before .before .before in
-    let v = t .before .before .before in
+    let v = t .before .before in
     let f = v .before .before .before .before in
     let m = f .before .before in
     let i = m .before in
     let n = i .before in
     let l = n .before .before .loop in (
-      pass-goes _ _ _ _ _ _ _ _ _ (l .inv .0) (omega (arith, n .before .loop-test .taken)) _ (n .entry .ensures) (i .if1 .left) (v .solve .result .search)
-          (v .solve .ensures .0 ∙ f .counted-from .ensures .0 .told _) _ _ (t .if3 .left) (c .put-row2 .ensures) refl,
-      v .solve .ensures .1,
+      pass-goes _ _ _ _ _ _ _ _ _ (l .inv .0) (omega (arith, n .before .loop-test .taken)) _ (n .entry .ensures) (i .if1 .left) (v .solve .result)
+          (v .solve .ensures ∙ f .counted-from .ensures .0 .told _) _ _ (t .if3 .left) (c .put-row2 .ensures) refl,
+      v .solve .ensures,
       lower-after (l .lab) _ (m .marks-of .ensures) _ (f .counted-from .ensures .1),
     ))  -- loop-again-3
     (λ c. pass-ends _ _ _ _ _ _ _ _ _ (c .before .loop .inv .0) (omega (arith, c .loop-test .left))))  -- returns-2

@@ -11,6 +11,6 @@ solve-spec =
     (λ c κs. search needs)  -- same-counted-requires
     (λ c.
     let s = c .before in
-    (same-search _ _ _ _ (s .same-counted .ensures) (c .if1 .taken) (s .before .pre), s .before .pre))  -- returns
+    same-search _ _ _ _ (s .same-counted .ensures) (c .if1 .taken) (s .before .pre))  -- returns
     (λ c κs. search needs)  -- lab-search-requires
-    (λ c. (c .lab-search .ensures, c .lab-search .ensures)))  -- returns-2
+    (λ c. c .lab-search .ensures))  -- returns-2
