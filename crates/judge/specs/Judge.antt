@@ -200,7 +200,7 @@ routeBytes c = concatMap (λ l. routeOf (inForce c) (labCells c l)) (below 1024)
 unfoldable pub routed : Call → List ℕ → List ℕ
 routed c before = cond (eqb (judged c .number) 0) (routeBytes c) before
 
--- M-106: the tries of LAB l; LABs "above a refused one, get 0", and "empty LABs" have no needs
+-- M-106: the tries of LAB l; LABs "above a refused one, get 0" (a legal verdict names 65,535, which no LAB is above), and "empty LABs" have no needs
 unfoldable pub triesOf : Call → ℕ → ℕ
 triesOf c l = cond (ltb (judged c .lab) l) 0 (labTries (inForce c) (labCells c l))
 
