@@ -74,6 +74,24 @@ class Place:
         for words in said:
             assert any(form.fullmatch(words) for form in forms.values()), "docs/%s does not say: %s" % (name, words)
 
+    def helps(self, verb, parts):
+        """The command's help of a verb has all these parts."""
+        call = [os.path.join(self.top, "nurimkkot"), "help", verb]
+        text = " ".join(subprocess.run(call, capture_output=True, text=True, check=True).stdout.split())
+        for part in parts:
+            assert part in text, part
+
+    def refuses_calls(self, verb, name, wrong, line):
+        """Words that are none of the script's get this line, and what is no library, like the file of this name in the folder, is refused. How many
+        calls that were."""
+        for words in wrong:
+            assert self.refused(*words) == line, words
+        right, others = self.shared_object, ("/nowhere/libnurimkkot.so", self.path(name))
+        for self.shared_object in others:
+            assert self.refused(verb).startswith("the library can't be used: "), self.shared_object
+        self.shared_object = right
+        return len(wrong) + len(others)
+
     def run(self, verb, *options, **how):
         """Runs the script as a program: status, standard output, lines on standard error."""
         call = [sys.executable, "-I", "-B", self.script.__file__, verb, self.shared_object, self.folder, *options]

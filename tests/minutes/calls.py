@@ -79,19 +79,13 @@ def wrong_calls(place):
     """Words that are none of the script's, libraries that can't be used, and a number that has no words."""
     place.fill({"tablet.lxl": LOG})
     wrong = (["mark"], [""], ["minutes", "--CSV"], ["minutes", "--csv", "more"], ["minutes", "--settings"])
-    for words in wrong:
-        assert place.refused(*words) == "tablet_log.py takes minutes, the library and the folder, and --csv", words
-    right = place.shared_object
-    for other in ("/nowhere/libnurimkkot.so", place.path("tablet.lxl")):
-        place.shared_object = other
-        assert place.refused("minutes").startswith("the library can't be used: "), other
-    place.shared_object = right
+    tried = place.refuses_calls("minutes", "tablet.lxl", wrong, "tablet_log.py takes minutes, the library and the folder, and --csv")
     keep = place.library.minutes
     for number in (87, 99):
         place.library.minutes = lambda log: (number, [], [])
         assert place.refusal(tablet_log.minutes, []) == "tablet.lxl is refused with %d: see docs/VERDICTS.md" % number
     place.library.minutes = keep
-    return len(wrong) + 4
+    return tried + 2
 
 
 def try_all(place):

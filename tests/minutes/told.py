@@ -1,8 +1,6 @@
 """The words for the numbers against docs/VERDICTS.md and c/nurimkkot.h, the lines that refuse against docs/MINUTES.md, and the help."""
 
-import os
 import re
-import subprocess
 
 import tablet_log
 
@@ -26,9 +24,6 @@ def lines(place):
 
 def help_text(place):
     """The command's help has every number, the limits, and what is read and written."""
-    call = [os.path.join(place.top, "nurimkkot"), "help", "minutes"]
-    text = " ".join(subprocess.run(call, capture_output=True, text=True, check=True).stdout.split())
-    for part in ["FOLDER/tablet.lxl", "docs/MINUTES.md", "--csv", "missing counts as empty", "can't be read is an error", "whatever the login",
-                 "distinct minutes", "the closing minute is not covered", "Nothing is written into the folder", "Exit status: 0 when", "2 when",
-                 "%d apprentices" % tablet_log.MOST_APPRENTICES, "%d entries" % tablet_log.MOST_ENTRIES] + [" %d " % n for n in tablet_log.MEANING]:
-        assert part in text, part
+    place.helps("minutes", ["FOLDER/tablet.lxl", "docs/MINUTES.md", "--csv", "missing counts as empty", "can't be read is an error", "whatever the login",
+                            "distinct minutes", "the closing minute is not covered", "Nothing is written into the folder", "Exit status: 0 when", "2 when",
+                            "%d apprentices" % tablet_log.MOST_APPRENTICES, "%d entries" % tablet_log.MOST_ENTRIES] + [" %d " % n for n in tablet_log.MEANING])

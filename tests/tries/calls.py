@@ -185,14 +185,7 @@ def wrong_calls(place):
     """Words that are none of the script's, and libraries that can't be used."""
     place.fill(GOOD)
     wrong = (["minutes"], [""], ["tries", "--CSV"], ["tries", "--csv", "more"], ["tries", "--settings"])
-    for words in wrong:
-        assert place.refused(*words) == "tries.py takes tries, the library and the folder, and --csv", words
-    right = place.shared_object
-    for other in ("/nowhere/libnurimkkot.so", place.path("exercise.lxe")):
-        place.shared_object = other
-        assert place.refused("tries").startswith("the library can't be used: "), other
-    place.shared_object = right
-    return len(wrong) + 2
+    return place.refuses_calls("tries", "exercise.lxe", wrong, "tries.py takes tries, the library and the folder, and --csv")
 
 
 def try_all(place):

@@ -1,7 +1,6 @@
 """What docs/TRIES.md says: its lines, its figures and its commands; and the help."""
 
 import os
-import subprocess
 
 import page_commands
 import paper
@@ -20,12 +19,9 @@ def lines(place):
 
 def help_text(place):
     """The command's help has what is read and written, and the limit."""
-    call = [os.path.join(place.top, "nurimkkot"), "help", "tries"]
-    text = " ".join(subprocess.run(call, capture_output=True, text=True, check=True).stdout.split())
-    for part in ["FOLDER/exercise.lxe", "FOLDER/answer.lxa", "FOLDER/settings.lxt", "docs/TRIES.md", "--csv", "missing counts as empty",
-                 "Without settings.lxt the board is that of document 01", "can't be read is an error", "at most %d" % tries.MOST_TRIES,
-                 "Nothing is written into the folder", "Exit status: 0 when a verdict was given, whatever the verdict", "2 when not"]:
-        assert part in text, part
+    place.helps("tries", ["FOLDER/exercise.lxe", "FOLDER/answer.lxa", "FOLDER/settings.lxt", "docs/TRIES.md", "--csv", "missing counts as empty",
+                          "Without settings.lxt the board is that of document 01", "can't be read is an error", "at most %d" % tries.MOST_TRIES,
+                          "Nothing is written into the folder", "Exit status: 0 when a verdict was given, whatever the verdict", "2 when not"])
 
 
 def limits(place):

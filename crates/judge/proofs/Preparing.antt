@@ -384,21 +384,18 @@ module _ (c : Call) (before list : List ℕ) (v : Verdict) where
   abbrev Said : List ℕ → List ℕ → Type 0
   Said after tries = (v ≡ judged c) × ((after ≡ routed c before) × (tries ≡ tried c list))
 
-  -- 1
-  pub judge-room : (c .room ≡ 8192 → ⊥) → v ≡ verdictOf (c .exercise) (c .answer) (finding 1 NONE NONE) → Said before list
-  unfolding judged routed tried verdictOf checks checksTo51 roomChecks
-  judge-room h q = (rw (ne-eqb (c .room) 8192 h) q, (rw (ne-eqb (c .room) 8192 h), rw (ne-eqb (c .room) 8192 h)))
-
-  -- 3
-  pub judge-slots : c .room ≡ 8192 → (c .slots ≡ 1024 → ⊥) → v ≡ verdictOf (c .exercise) (c .answer) (finding 3 NONE NONE) → Said before list
-  unfolding judged routed tried verdictOf checks checksTo51 roomChecks
-  judge-slots r h q = (
-    rw (eq-eqb (c .room) 8192 r, ne-eqb (c .slots) 1024 h) q,
-    (rw (eq-eqb (c .room) 8192 r, ne-eqb (c .slots) 1024 h), rw (eq-eqb (c .room) 8192 r, ne-eqb (c .slots) 1024 h)),
-  )
-
   pub judge-done : (f : Finding) (after tries : List ℕ) → f ≡ firstBroken (checks c) → after ≡ cond (eqb (f .number) 0) (routeBytes c) before
       → tries ≡ cond (elemb (f .number) searchedNumbers) (map (triesOf c) (below 1024)) list
       → v ≡ verdictOf (c .exercise) (c .answer) f → Said after tries
   unfolding judged routed tried verdictOf
   judge-done f after tries x w k q = (rw (← x) q, (rw (← x) w, rw (← x) k))
+
+  -- 1
+  pub judge-room : (c .room ≡ 8192 → ⊥) → v ≡ verdictOf (c .exercise) (c .answer) (finding 1 NONE NONE) → Said before list
+  unfolding checks checksTo51 roomChecks
+  judge-room h = judge-done (finding 1 NONE NONE) before list (rw (ne-eqb (c .room) 8192 h)) refl refl
+
+  -- 3
+  pub judge-slots : c .room ≡ 8192 → (c .slots ≡ 1024 → ⊥) → v ≡ verdictOf (c .exercise) (c .answer) (finding 3 NONE NONE) → Said before list
+  unfolding checks checksTo51 roomChecks
+  judge-slots r h = judge-done (finding 3 NONE NONE) before list (rw (eq-eqb (c .room) 8192 r, ne-eqb (c .slots) 1024 h)) refl refl

@@ -1,18 +1,21 @@
 -- Refusal 65 names a LAB exactly when the four things of demand 3 are true of it. Assumes nothing.
-use Prim.Native.Nat.{ℕ, zero, suc, _+_, _<_, _≤_}
+use Prim.Native.Nat.{ℕ, _+_, _<_, _≤_}
 use mathlib.Core.Path.{_≡_, refl, sym, ap, _∙_}
 use mathlib.Core.Logic.{_↔_}
 use mathlib.Core.Bool.{Bool, true, false, cond, not, true≢false}
-use mathlib.Core.List.{List, [], _∷_, _++_}
+use mathlib.Core.List.{List, [], _∷_, _++_, map}
 use native.Mathlib.Decide.{decLt}
 use native.Mathlib.Omega.{arith}
 use lib.Dec.{eqb, ltb}
-use borrow.Author.Tests.{eqb-true, ne-eqb, lt-ltb}
-use Rattle.sheet.specs.Lists.{concatMap, filterb, from, below, firstFrom}
+use borrow.Author.Tests.{eqb-true, ne-eqb, lt-ltb, le-ltb}
+use Rattle.sheet.specs.Lists.{concatMap, below, firstFrom}
 use Rattle.sheet.specs.Checks as sheet
 use Rattle.exercise.specs.Exercise.{cellCount}
 use Rattle.exercise.specs.declared.Record.{Record}
 use Rattle.sheet.proofs.Laws.{by-test}
+use Rattle.sheet.proofs.Lists.{filter-none}
+use Rattle.sheet.proofs.Scan.{any-below}
+use Rattle.tables.specs.Records.{cell, cellNumbers}
 use Rattle.route.specs.Table.{Table}
 use Rattle.route.specs.Way.{Way}
 use Rattle.route.proofs.AllWays.{earliest-some, no-needs}
@@ -24,11 +27,11 @@ use Rattle.lab_pass.specs.Members.{members}
 use Rattle.sheet.specs.Checks.{NONE}
 use Rattle.judge.specs.declared.Finding.{Finding}
 use Rattle.judge.specs.Call.{Call, inForce}
-use Rattle.judge.specs.Judge.{Check, finding, ofLab, labCells, labGroup, checksTo51, checks, firstBroken, judged, verdictOf}
+use Rattle.judge.specs.Judge.{Check, finding, ofLab, labCells, occupied, labGroup, checksTo51, checks, firstBroken, judged, verdictOf}
 use Rattle.judge.specs.Numbers.{numbersTo51}
 use Rattle.judge.specs.Demands.{AllHold, FourThings, Keeps60to64, Keeps65, labNeeds}
 use Rattle.judge.proofs.Broken.{NumberedIn, skip-held, breaksOne, labs-find}
-use Rattle.sheet.proofs.First.{before-first, first-is}
+use Rattle.sheet.proofs.First.{before-first, first-is, none-first}
 use Rattle.judge.proofs.Numbers.{later-held, rules-numbered, lab-numbered, to-51-known}
 use Rattle.judge.proofs.Held.{hold-number}
 use Rattle.judge.proofs.Kept.{places-held}
@@ -66,20 +69,23 @@ module _ (g : ℕ → List sheet.Check) (numbered : (j : ℕ) → NumberedIn (g 
       labs-find g k numbered ∙ rw (is, lt-ltb l k h, u)
 
 -- ---- a LAB that has no way has a cell, so its number is below 1024
-none-pass : (p : ℕ → Bool) (k i : ℕ) → ((j : ℕ) → i ≤ j → j < i + k → p j ≡ false) → filterb p (from i k) ≡ []
-none-pass p zero i h = refl
-none-pass p (suc k) i h = rw (h i (omega arith) (omega arith)) (none-pass p k (suc i) (λ j a b. h j (omega arith) (omega arith)))
-
 module _ (c : Call) (l : ℕ) where
   abbrev t : Table
   t = inForce c
 
+  -- an empty LAB has no cells
+  pub no-cells : occupied c l ≡ false → labCells c l ≡ []
+  unfolding occupied labCells members
+  no-cells h = ap (map (cell (c .exercise))) (filter-none (λ i. eqb (labAt (c .answer) i) l) (cellNumbers (c .exercise)) h)
+
   nobody : AllHold (checksTo51 c) → 1024 ≤ l → labCells c l ≡ []
-  unfolding labCells members
+  unfolding occupied
   nobody h g =
       let a = c .answer in
-      rw (none-pass (λ i. eqb (labAt a i) l) (cellCount (c .exercise)) 0
-      (λ i _ m. ne-eqb (labAt a i) l (λ q. omega (arith, lab-in-range a i (places-held c h i (omega arith))))))
+      let n = cellCount (c .exercise) in
+      let here : ℕ → Bool = λ i. eqb (labAt a i) l in
+      let none-there = none-first here n (λ i m. ne-eqb (labAt a i) l (λ q. omega (arith, lab-in-range a i (places-held c h i m)))) in
+      no-cells (any-below here n ∙ rw none-there (le-ltb n n (omega arith)))
 
   on-board : FourThings c l → l < 1024
   unfolding labNeeds needs inLab

@@ -1,18 +1,18 @@
 -- What stands in the list of tries on 0 and 65: the tries of each LAB up to a refused one, 0 above it and for an empty LAB, and no more than 109,600.
 -- Assumes nothing.
 use Prim.Native.Nat.{ℕ, _<_, _≤_}
-use mathlib.Core.Path.{_≡_, refl, ap, _∙_}
+use mathlib.Core.Path.{_≡_, refl, _∙_}
 use mathlib.Core.Logic.{inl, ⊎-elim}
-use mathlib.Core.Bool.{Bool, false}
+use mathlib.Core.Bool.{false}
 use mathlib.Core.List.{List, [], _∷_, map}
 use native.Mathlib.Nat.{eq-or-lt-of-le}
 use native.Mathlib.Omega.{arith}
 use lib.ListN.{length, getD}
-use lib.Dec.{eqb, ltb}
+use lib.Dec.{ltb}
 use borrow.Author.Tests.{lt-ltb, le-ltb, ltb-true, ltb-false}
-use Rattle.sheet.specs.Lists.{below, filterb, anyb}
+use Rattle.sheet.specs.Lists.{below}
 use Rattle.sheet.specs.Checks.{NONE, firstNumber}
-use Rattle.sheet.proofs.Laws.{by-test, or-parts}
+use Rattle.sheet.proofs.Laws.{by-test}
 use Rattle.sheet.proofs.Lists.{table-length, table-at}
 use Rattle.route.specs.Tries.{tries}
 use Rattle.route.proofs.Tries.{no-tries}
@@ -22,9 +22,6 @@ use Rattle.lab_rules.specs.Ports.{inLab}
 use Rattle.lab_rules.specs.Rules.{needs, labRules, labChecks, labNumber, labTries}
 use Rattle.lab_rules.proofs.Checks.{rules-held, rules-kept}
 use Rattle.lab_rules.proofs.Needed.{needs-eight}
-use Rattle.tables.specs.Records.{cell, cellNumbers}
-use Rattle.placing.specs.Places.{labAt}
-use Rattle.lab_pass.specs.Members.{members}
 use Rattle.judge.specs.Call.{Call, inForce}
 use Rattle.judge.specs.Judge.{checks, checksTo51, labCells, occupied, judged, verdictOf, triesOf, tried}
 use Rattle.judge.specs.Demands.{OneOf, AllHold, labNeeds, Keeps60to64}
@@ -33,7 +30,7 @@ use Rattle.judge.proofs.Broken.{hold-legal}
 use Rattle.judge.proofs.Held.{hold-number, legal-hold, to-51-holds, lab-holds}
 use Rattle.judge.proofs.Kept.{all-kept, settings-passed}
 use Rattle.judge.proofs.FitCells.{lab-fit}
-use Rattle.judge.proofs.Refusal65.{refusal-65}
+use Rattle.judge.proofs.Refusal65.{no-cells, refusal-65}
 use Rattle.judge.proofs.TriesFound.{one-of}
 
 -- ---- the list as it is written
@@ -59,17 +56,9 @@ module _ (c : Call) (l : ℕ) where
   tries-own h = rw (le-ltb (judged c .lab) l h)
 
   -- a LAB without cells has no needs
-  no-cells : occupied c l ≡ false → labCells c l ≡ []
-  unfolding occupied labCells members
-  no-cells h = ap (map (cell (c .exercise))) (none-left (λ i. eqb (labAt (c .answer) i) l) (cellNumbers (c .exercise)) h)
-    where
-      none-left : (p : ℕ → Bool) (xs : List ℕ) → anyb p xs ≡ false → filterb p xs ≡ []
-      none-left p [] q = refl
-      none-left p (x ∷ xs) q = let parts = or-parts (p x) (anyb p xs) q in rw (parts .0) (none-left p xs (parts .1))
-
   tries-empty : occupied c l ≡ false → triesOf c l ≡ 0
   unfolding triesOf labTries needs inLab
-  tries-empty h = by-test (ltb (judged c .lab) l) (λ b. rw b) (λ b. rw (b, no-cells h) (no-tries (inForce c)))
+  tries-empty h = by-test (ltb (judged c .lab) l) (λ b. rw b) (λ b. rw (b, no-cells c l h) (no-tries (inForce c)))
 
 -- ---- the limit: a LAB that keeps 60 to 63 has at most eight needs, and a board at most eight entries
 module _ (c : Call) (holds : AllHold (checksTo51 c)) (l : ℕ) (kept : firstNumber (labRules (labCells c l)) ≡ 0) where

@@ -6,7 +6,10 @@ use mathlib.Core.Path.{_≡_, refl, sym, ap, _∙_}
 use mathlib.Core.List.{List, [], _∷_}
 use lib.ListN.{length, getD, set, length-set}
 use lib.Seq.{getD-set-same, getD-set-other, ext-getD}
+use lib.Dec.{ltb}
 use borrow.Author.Count.{below-more}
+use borrow.Author.Tests.{ltb-true, ltb-false}
+use Rattle.sheet.proofs.Laws.{by-test}
 
 -- g i, g (i + 1), .. of k numbers
 unfoldable pub rowFrom : (ℕ → ℕ) → ℕ → ℕ → List ℕ
@@ -44,6 +47,17 @@ write-goes g l₀ l k v w h e =
           (λ j b. getD-set-other l k j v 0 (λ q. omega arith) ∙ w .done j b)
           (getD-set-same l k v 0 h ∙ e);
       rest = λ j b. getD-set-other l k j v 0 (λ q. omega arith) ∙ w .rest j (omega arith);
+    }
+
+-- the elements from k to m are left, and are the rule's as they were
+pub write-left : (g : ℕ → ℕ) (l₀ l : List ℕ) (k m : ℕ) → Written g l₀ l k → k ≤ m → m ≤ length l₀
+    → ((j : ℕ) → k ≤ j → j < m → getD l₀ j 0 ≡ g j) → Written g l₀ l m
+write-left g l₀ l k m w h b same =
+    record {
+      long = w .long;
+      within = b;
+      done = λ j u. by-test (ltb j k) (λ t. w .done j (ltb-true j k t)) (λ t. let past = ltb-false j k t in w .rest j past ∙ same j past u);
+      rest = λ j u. w .rest j (omega arith);
     }
 
 pub write-ends : (g : ℕ → ℕ) (l₀ l : List ℕ) (k : ℕ) → Written g l₀ l k → length l ≤ k → l ≡ rowFrom g 0 (length l₀)

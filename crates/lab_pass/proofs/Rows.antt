@@ -7,8 +7,7 @@ use mathlib.Core.Option.{Option, none, some}
 use native.Mathlib.Omega.{arith}
 use lib.ListN.{length, getD, set, replicate, length-set, getD-replicate}
 use lib.Seq.{ext-getD}
-use lib.Dec.{eqb, ltb}
-use borrow.Author.Tests.{ltb-true, ltb-false}
+use lib.Dec.{eqb}
 use Rattle.sheet.specs.Lists.{concatMap, from, below}
 use Rattle.exercise.specs.declared.Record.{Record}
 use Rattle.sheet.proofs.Laws.{by-test}
@@ -20,7 +19,7 @@ use Rattle.lab_nets.specs.passes.Uses.{netsWithin}
 use Rattle.lab_rules.specs.passes.Counts.{noCounts, countsAll, brokenBy, needsHeld, routedResult, resultFrom, searched}
 use Rattle.lab_rules.specs.declared.Counts.{Counts}
 use Rattle.lab_pass.specs.passes.Results.{searchOf, putRow, putRows}
-use Rattle.lab_pass.proofs.Filling.{rowFrom, row-length, row-at, Written, write-starts, write-goes, write-ends}
+use Rattle.lab_pass.proofs.Filling.{rowFrom, row-length, row-at, Written, write-starts, write-goes, write-left, write-ends}
 
 row-append : (g : ℕ → ℕ) (i m n : ℕ) → rowFrom g i (m + n) ≡ rowFrom g i m ++ rowFrom g (i + m) n
 unfolding rowFrom
@@ -90,18 +89,10 @@ module _ (some : ℕ → Bool) (g : ℕ → List ℕ) where
   row-left : (l₀ l : List ℕ) (k : ℕ) → 8 * k + 8 ≤ length l₀ → ((j : ℕ) → j < length l₀ → getD l₀ j 0 ≡ 255) → g k ≡ replicate 8 255
       → Written byteOf l₀ l (8 * k) → Written byteOf l₀ l (8 * suc k)
   row-left l₀ l k r blank e w =
-      record {
-        long = w .long;
-        within = omega arith;
-        done =
-            λ j h.
-            by-test (ltb j (8 * k)) (λ t. w .done j (ltb-true j (8 * k) t))
-            (λ t.
-            let past = ltb-false j (8 * k) t in
-            let lab : j / 8 ≡ k = omega arith in
-            w .rest j past ∙ blank j (omega arith) ∙ sym (rw (lab, e) (getD-replicate 8 (j % 8) 255 0 (omega arith))));
-        rest = λ j h. w .rest j (omega arith);
-      }
+      write-left byteOf l₀ l (8 * k) (8 * suc k) w (omega arith) (omega arith)
+      (λ j past h.
+      let lab : j / 8 ≡ k = omega arith in
+      blank j (omega arith) ∙ sym (rw (lab, e) (getD-replicate 8 (j % 8) 255 0 (omega arith))))
 
   module _ (l : List ℕ) (blank : (j : ℕ) → j < length l → getD l j 0 ≡ 255) where
     rows-go : (k : ℕ) → 8 * k ≤ length l → ((i : ℕ) → i < k → some i ≡ false → g i ≡ replicate 8 255) → Written byteOf l (putRows some g l k) (8 * k)

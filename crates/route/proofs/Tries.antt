@@ -12,7 +12,7 @@ use lib.ListN.{length, take, length-append}
 use borrow.Author.Tests.{eq-eqb, ne-eqb, lt-ltb, le-ltb}
 use Rattle.sheet.specs.Lists.{Every, concatMap, filterb, from, elemb}
 use Rattle.sheet.proofs.Laws.{by-test, same-truth, and-parts}
-use Rattle.sheet.proofs.Lists.{filter-append, filter-same}
+use Rattle.sheet.proofs.Lists.{filter-append, filter-same, count-map}
 use Rattle.route.specs.declared.Need.{Need}
 use Rattle.route.specs.Table.{Table, serves}
 use Rattle.route.specs.Way.{isWay, earliestWay}
@@ -28,17 +28,13 @@ abbrev pub begun : List (List ℕ) → ℕ → ℕ → List (List ℕ)
 begun l k e = concatMap (λ x. map (λ v. x ∷ v) l) (from e k)
 
 module _ (p : List ℕ → Bool) where
-  with-front : (e : ℕ) (l : List (List ℕ)) → length (filterb p (map (λ v. e ∷ v) l)) ≡ length (filterb (λ v. p (e ∷ v)) l)
-  with-front e [] = refl
-  with-front e (v ∷ l) = by-test (p (e ∷ v)) (λ q. rw q (ap suc (with-front e l))) (λ q. rw q (with-front e l))
-
   -- those that begin with e, and those that begin later
   pub begun-step : (l : List (List ℕ)) (k e : ℕ)
       → length (filterb p (begun l (suc k) e)) ≡ length (filterb (λ v. p (e ∷ v)) l) + length (filterb p (begun l k (suc e)))
   begun-step l k e =
       ap length (filter-append p (map (λ v. e ∷ v) l) (begun l k (suc e)))
       ∙ length-append (filterb p (map (λ v. e ∷ v) l)) (filterb p (begun l k (suc e)))
-      ∙ ap (λ (m : ℕ). m + length (filterb p (begun l k (suc e)))) (with-front e l)
+      ∙ ap (λ (m : ℕ). m + length (filterb p (begun l k (suc e)))) (count-map (λ v. e ∷ v) p l)
 
 none-pass : (p : List ℕ → Bool) → ((v : List ℕ) → p v ≡ false) → (l : List (List ℕ)) → length (filterb p l) ≡ 0
 none-pass p h [] = refl

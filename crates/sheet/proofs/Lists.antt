@@ -43,9 +43,18 @@ module _ {A : Type 0} (p : A → Bool) where
   filter-same q h [] = refl
   filter-same q h (x ∷ xs) = rw (h x, filter-same q h xs)
 
+  pub filter-none : (xs : List A) → anyb p xs ≡ false → filterb p xs ≡ []
+  filter-none [] f = refl
+  filter-none (x ∷ xs) f = let g = or-parts (p x) (anyb p xs) f in rw (g .0) (filter-none xs (g .1))
+
   pub any-none : (q : A → Bool) → ((x : A) → p x ≡ false → q x ≡ false) → (xs : List A) → anyb p xs ≡ false → anyb q xs ≡ false
   any-none q h [] f = refl
   any-none q h (x ∷ xs) f = let g = or-parts (p x) (anyb p xs) f in rw (h x (g .0)) (any-none q h xs (g .1))
+
+-- as many of the images pass as there are elements whose image does
+pub count-map : {A B : Type 0} (f : A → B) (p : B → Bool) (xs : List A) → length (filterb p (map f xs)) ≡ length (filterb (λ x. p (f x)) xs)
+count-map f p [] = refl
+count-map f p (x ∷ xs) = let rest = count-map f p xs in by-test (p (f x)) (λ t. rw t (ap suc rest)) (λ t. rw t rest)
 
 pub any-and : {A : Type 0} (u : Bool) (p : A → Bool) (xs : List A) → anyb (λ x. u && p x) xs ≡ u && anyb p xs
 any-and true p xs = refl

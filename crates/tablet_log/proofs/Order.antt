@@ -1,5 +1,5 @@
 -- The order of the entries does not matter: entries in another order have the same apprentices with the same credits, and as many of them cover nothing. Assumes nothing.
-use Prim.Native.Nat.{ℕ, suc}
+use Prim.Native.Nat.{ℕ}
 use mathlib.Core.Path.{_≡_, refl, sym, ap, _∙_}
 use mathlib.Core.Bool.{Bool, cond}
 use mathlib.Core.List.{List, [], _∷_, map, List·Permᴰ}
@@ -7,6 +7,7 @@ use lib.ListN.{length}
 use lib.Dec.{ltb}
 use Rattle.sheet.specs.Lists.{anyb, filterb, concatMap, below}
 use Rattle.sheet.proofs.Laws.{by-test}
+use Rattle.sheet.proofs.Lists.{count-map}
 use Rattle.sheet.proofs.Order.{test-order, count-order}
 use Rattle.distinct.proofs.Order.{rising-brought}
 use Rattle.tablet_log.specs.declared.Entry.{Entry}
@@ -55,17 +56,13 @@ any-map : (p : Entry → Bool) (f : ℕ → Entry) (xs : List ℕ) → anyb (λ 
 any-map p f [] = refl
 any-map p f (x ∷ xs) = rw (any-map p f xs)
 
-filter-map : (p : Entry → Bool) (f : ℕ → Entry) (xs : List ℕ) → length (filterb (λ x. p (f x)) xs) ≡ length (filterb p (map f xs))
-filter-map p f [] = refl
-filter-map p f (x ∷ xs) = let rest = filter-map p f xs in by-test (p (f x)) (λ t. rw t (ap suc rest)) (λ t. rw t rest)
-
 pub bad-entries : (l : List ℕ) → anyBad l ≡ anyb badEntry (entries l)
 unfolding anyBad badAt entries
 bad-entries l = any-map badEntry (entryAt l) (below (entryCount l))
 
 empty-entries : (l : List ℕ) → length (listedOf l) ≡ length (filterb coversNone (entries l))
 unfolding emptyBelow entries
-empty-entries l = filter-map coversNone (entryAt l) (below (entryCount l))
+empty-entries l = sym (count-map (entryAt l) coversNone (below (entryCount l)))
 
 module _ (k l : List ℕ) (h : Reordered k l) where
   order-refusal : (rows numbers : ℕ) → refusal k rows numbers ≡ refusal l rows numbers
