@@ -1,4 +1,4 @@
--- What stands in the list of tries on 0 and 65: the tries of each LAB up to a refused one, 0 above it and for an empty LAB, and no more than 109,600.
+-- What stands in the list of tries on 0 and 65: the tries of each LAB up to a refused one, 0 above it and for an empty LAB, and no more than 19,173,960.
 -- Assumes nothing.
 use Prim.Native.Nat.{ℕ, _<_, _≤_}
 use mathlib.Core.Path.{_≡_, refl, _∙_}
@@ -62,7 +62,7 @@ module _ (c : Call) (l : ℕ) where
 
 -- ---- the limit: a LAB that keeps 60 to 63 has at most eight needs, and a board at most eight entries
 module _ (c : Call) (holds : AllHold (checksTo51 c)) (l : ℕ) (kept : firstNumber (labRules (labCells c l)) ≡ 0) where
-  lab-most : tries (inForce c) (labNeeds c l) ≤ 109600
+  lab-most : tries (inForce c) (labNeeds c l) ≤ 19173960
   unfolding labNeeds
   lab-most =
       let cs = labCells c l in
@@ -72,12 +72,12 @@ module _ (c : Call) (holds : AllHold (checksTo51 c)) (l : ℕ) (kept : firstNumb
       (needs-eight cs (lab-fit c (all .few) (all .keeps) l) (h .0) (h .1) (h .2) (h .3))
 
 module _ (c : Call) (l : ℕ) where
-  legal-most : judged c .number ≡ 0 → l < 1024 → tries (inForce c) (labNeeds c l) ≤ 109600
+  legal-most : judged c .number ≡ 0 → l < 1024 → tries (inForce c) (labNeeds c l) ≤ 19173960
   unfolding AllHold labNumber
   legal-most z h =
       lab-most c (to-51-holds c z) l (rules-kept (inForce c) (labCells c l) (inl (hold-number l (labChecks (inForce c) (labCells c l)) (lab-holds c z l h))))
 
-  refused-most : judged c .number ≡ 65 → l ≤ judged c .lab → tries (inForce c) (labNeeds c l) ≤ 109600
+  refused-most : judged c .number ≡ 65 → l ≤ judged c .lab → tries (inForce c) (labNeeds c l) ≤ 19173960
   unfolding AllHold Keeps60to64
   refused-most z m =
       let four = refusal-65 c (judged c .lab) .0 (z, refl) in
@@ -86,7 +86,7 @@ module _ (c : Call) (l : ℕ) where
       (λ b. lab-most c (four .to-51-hold) l (hold-number l rules (four .lower-keep l b .0)))
       (eq-or-lt-of-le m)
 
-most : (c : Call) (before : List ℕ) → OneOf (judged c) (0 ∷ 65 ∷ []) → (l : ℕ) → l < 1024 → getD (tried c before) l 0 ≤ 109600
+most : (c : Call) (before : List ℕ) → OneOf (judged c) (0 ∷ 65 ∷ []) → (l : ℕ) → l < 1024 → getD (tried c before) l 0 ≤ 19173960
 most c before told l h =
     rw (number-at c before told l h)
     (by-test (ltb (judged c .lab) l) (λ b. rw (tries-above c l (ltb-true (judged c .lab) l b)) (omega arith))

@@ -1,5 +1,5 @@
--- Document 01, "Settled examples": P1 to P12 as one list of claims about the cells of a LAB on the house board; and the six lines of source 000,
--- table 4. Assumes nothing.
+-- Document 01, "Settled examples": P1 to P12 as one list of claims about the cells of a LAB on the house board; the six lines of source 000, table 4;
+-- and what M-107 lets needs of one net do. Assumes nothing.
 use Prim.Native.Nat.{ℕ}
 use mathlib.Core.Path.{_≡_}
 use mathlib.Core.List.{List, [], _∷_}
@@ -16,7 +16,7 @@ use Rattle.route.specs.Way.{earliestWay}
 use Rattle.lab_rules.specs.Ports.{pair, clockPair, inLab}
 use Rattle.lab_rules.specs.Rules.{needs, labNumber}
 
--- unconnected, and the nets 0 to 5
+-- unconnected, the nets 0 to 5, and net 0 inverted
 abbrev pub - : ℕ
 - = UNCONNECTED
 
@@ -37,6 +37,9 @@ E = 12
 
 abbrev pub F : ℕ
 F = 14
+
+abbrev pub notA : ℕ
+notA = 5
 
 abbrev pub signal : ℕ → Signal
 signal s = record { 0 = s }
@@ -122,3 +125,15 @@ table4 =
 
 unfoldable pub Table4 : Type 0
 Table4 = Every Holds table4
+
+-- M-107, on document 01's board
+abbrev pub sharing : List Claim
+sharing =
+    route (one A - - - - ∷ other notA - - - - ∷ []) 2 0 (some (0 ∷ 0 ∷ []))  -- "net A and its inverse as clk now take entries 0 and 0"
+    ∷ route (one A - A - - ∷ []) 2 0 (some (0 ∷ 1 ∷ []))  -- clk and aclr of one net could both take 1, and the earliest way does not
+    ∷ route (one A B D - - ∷ other notA C E - - ∷ []) 6 0 (some (0 ∷ 0 ∷ 2 ∷ 3 ∷ 1 ∷ 4 ∷ []))  -- P11 with a net and its inverse as clk
+    ∷ route (one A C D E F ∷ other B - E - - ∷ []) 7 0 (some (0 ∷ 2 ∷ 3 ∷ 1 ∷ 4 ∷ 4 ∷ 5 ∷ []))  -- seven needs on six entries: aclr and sclr of E share
+    ∷ []
+
+unfoldable pub Sharing : Type 0
+Sharing = Every Holds sharing

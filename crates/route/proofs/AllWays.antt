@@ -3,22 +3,22 @@
 use Prim.Native.Nat.{ℕ, zero, suc, _+_, _<_, _≤_}
 use mathlib.Core.Path.{_≡_, refl, sym, ap, _∙_}
 use mathlib.Core.Logic.{_⊎_, inl, inr, ⊎-elim, _↔_}
-use mathlib.Core.Bool.{Bool, true, false, cond, not, _&&_, true≢false}
+use mathlib.Core.Bool.{Bool, true, false, cond, _&&_, true≢false}
 use mathlib.Core.List.{List, [], _∷_, _++_, map}
 use mathlib.Core.Option.{Option, none, some}
 use native.Mathlib.Nat.{zero-add, not-suc-le-zero, le-of-suc-le-suc}
 use native.Mathlib.Omega.{arith}
 use lib.ListN.{length, getD, replicate, List·getD-eq-default}
 use lib.Dec.{eqb}
-use borrow.Author.Tests.{eqb-false, ne-eqb, not-true}
-use Rattle.sheet.specs.Lists.{concatMap, filterb, from, elemb}
-use Rattle.sheet.proofs.Laws.{by-test, and-parts, or-parts}
+use borrow.Author.Tests.{eqb-true, eq-eqb}
+use Rattle.sheet.specs.Lists.{concatMap, filterb, from}
+use Rattle.sheet.proofs.Laws.{by-test, and-parts}
 use Rattle.route.specs.declared.Need.{Need}
-use Rattle.route.specs.Table.{Table, ENTRIES, serves, noRow, eightRows, needAt}
-use Rattle.route.specs.Way.{Way, Earlier, isWay, entryLists, ways, firstOf, earliestWay}
+use Rattle.route.specs.Table.{Table, ENTRIES, serves, noRow, eightRows, needAt, needNet}
+use Rattle.route.specs.Way.{Way, Earlier, fits, fitsAll, isWay, entryLists, ways, firstOf, earliestWay}
 use Rattle.route.specs.passes.Search.{attempt, pick, foundWay}
 use Rattle.route.proofs.Search.{First, Begun, first-none, first-some, first-found, first-same, pick-first}
-use Rattle.route.proofs.Ways.{served-low, way-nil, way-cons, way-serves, way-own, way-rest, first-way}
+use Rattle.route.proofs.Ways.{OneNet, served-low, way-nil, way-cons, way-serves, way-shares, way-rest, first-way}
 
 -- ---- of all lists of entries, the first that passes a test
 module _ (p : List ℕ → Bool) (e : ℕ) (rest : List (List ℕ)) where
@@ -86,14 +86,25 @@ within-from size (suc k) p (e ∷ w) l low h =
     (low 0 (omega arith), within-from size k (λ v. p (e ∷ v)) w (omega arith) (λ i m. low (suc i) (omega arith)) h)
 
 -- ---- the test of a list says whether it is a way
-never-in : (e : ℕ) (w : List ℕ) → elemb e w ≡ false → (i : ℕ) → i < length w → e ≡ getD w i 0 → ⊥
-never-in e [] h i m = absurd (not-suc-le-zero m)
-never-in e (x ∷ w) h zero m = eqb-false e x (or-parts (eqb e x) (elemb e w) h .0)
-never-in e (x ∷ w) h (suc i) m = never-in e w (or-parts (eqb e x) (elemb e w) h .1) i (le-of-suc-le-suc m)
+fits-net : (n m : Need) (e x : ℕ) → fits n e m x ≡ true → e ≡ x → needNet n ≡ needNet m
+fits-net n m e x h q = eqb-true (needNet n) (needNet m) (rw (eq-eqb e x q) at h)
 
-not-in : (e : ℕ) (w : List ℕ) → ((i : ℕ) → i < length w → e ≡ getD w i 0 → ⊥) → elemb e w ≡ false
-not-in e [] h = refl
-not-in e (x ∷ w) h = rw (ne-eqb e x (h 0 (omega arith))) (not-in e w (λ i m. h (suc i) (omega arith)))
+net-fits : (n m : Need) (e x : ℕ) → (e ≡ x → needNet n ≡ needNet m) → fits n e m x ≡ true
+net-fits n m e x h =
+    by-test (eqb e x) (λ q. rw (q, eq-eqb (needNet n) (needNet m) (h (eqb-true e x q))) refl) (λ q. rw q refl)
+
+test-one-net : (n : Need) (e : ℕ) (ns : List Need) (w : List ℕ) → length w ≡ length ns → fitsAll n e ns w ≡ true → OneNet n e ns w
+test-one-net n e ns [] l h i m = absurd (not-suc-le-zero m)
+test-one-net n e [] (x ∷ w) l h i m = absurd (omega arith)
+test-one-net n e (k ∷ ns) (x ∷ w) l h zero m = fits-net n k e x (and-parts (fits n e k x) (fitsAll n e ns w) h .0)
+test-one-net n e (k ∷ ns) (x ∷ w) l h (suc i) m =
+    test-one-net n e ns w (omega arith) (and-parts (fits n e k x) (fitsAll n e ns w) h .1) i (le-of-suc-le-suc m)
+
+one-net-test : (n : Need) (e : ℕ) (ns : List Need) (w : List ℕ) → OneNet n e ns w → fitsAll n e ns w ≡ true
+one-net-test n e [] w h = refl
+one-net-test n e (k ∷ ns) [] h = refl
+one-net-test n e (k ∷ ns) (x ∷ w) h =
+    rw (net-fits n k e x (h 0 (omega arith)), one-net-test n e ns w (λ i m. h (suc i) (omega arith))) refl
 
 module _ (t : Table) where
   pub is-way : (ns : List Need) (w : List ℕ) → isWay t ns w ≡ true → Way t ns w
@@ -102,16 +113,17 @@ module _ (t : Table) where
   is-way [] (e ∷ w) q = absurd (true≢false (sym q))
   is-way (n ∷ ns) [] q = absurd (true≢false (sym q))
   is-way (n ∷ ns) (e ∷ w) q =
-      let parts = and-parts (serves t e (n .role) && not (elemb e w)) (isWay t ns w) q in
-      let here = and-parts (serves t e (n .role)) (not (elemb e w)) (parts .0) in
-      way-cons t n ns e w (here .0) (never-in e w (not-true (elemb e w) (here .1))) (is-way ns w (parts .1))
+      let parts = and-parts (serves t e (n .role) && fitsAll n e ns w) (isWay t ns w) q in
+      let here = and-parts (serves t e (n .role)) (fitsAll n e ns w) (parts .0) in
+      let rest = is-way ns w (parts .1) in
+      way-cons t n ns e w (here .0) (test-one-net n e ns w (rest .as-long) (here .1)) rest
 
   pub way-is : (ns : List Need) (w : List ℕ) → Way t ns w → isWay t ns w ≡ true
   unfolding isWay
   way-is [] [] h = refl
   way-is [] (e ∷ w) h = absurd (let q = h .as-long in omega arith)
   way-is (n ∷ ns) [] h = absurd (let q = h .as-long in omega arith)
-  way-is (n ∷ ns) (e ∷ w) h = rw (way-serves t n ns e w h, not-in e w (way-own t n ns e w h), way-is ns w (way-rest t n ns e w h))
+  way-is (n ∷ ns) (e ∷ w) h = rw (way-serves t n ns e w h, one-net-test n e ns w (way-shares t n ns e w h), way-is ns w (way-rest t n ns e w h)) refl
 
 -- ---- there is one first list at the most
 not-both : (v w : List ℕ) → Earlier v w → Earlier w v → ⊥
@@ -162,7 +174,7 @@ way-served : (t u : Table) → SameServed t u → (ns : List Need) (w : List ℕ
 way-served t u same ns w h = record {
   as-long = h .as-long;
   serving = λ i m. sym (same (getD w i 0) (needAt ns i .role)) ∙ h .serving i m;
-  its-own = h .its-own;
+  one-net = h .one-net;
 }
 
 -- 65: SAME ENTRIES SERVED, SAME WAYS

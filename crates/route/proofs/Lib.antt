@@ -1,6 +1,7 @@
 pub mod Search
 pub mod Ways
 pub mod AllWays
+mod OwnWays
 pub mod Tries
 pub mod Limit
 mod TriedWays
@@ -9,6 +10,7 @@ pub mod NeedLists
 mod Rows
 mod Steps
 mod Turns
+mod Idle
 mod Whole
 mod Bytes
 mod TriesCases

@@ -1,5 +1,5 @@
 -- The lists that the tries count are the partial ways at or before the answer: each of them is one, every one is among them, and they stand in
--- order, so that none is there twice; with eight needs and eight entries they are at most 109,600. Assumes nothing.
+-- order, so that none is there twice; with eight needs and eight entries they are at most 19,173,960. Assumes nothing.
 use Prim.Native.Nat.{ℕ, zero, suc, _+_, _<_, _≤_}
 use mathlib.Core.Path.{_≡_, refl, sym}
 use mathlib.Core.Logic.{_⊎_, inl, inr, ⊎-elim}

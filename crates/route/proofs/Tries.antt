@@ -3,23 +3,23 @@
 -- Tables that serve the same have the same tries. Assumes nothing.
 use Prim.Native.Nat.{ℕ, zero, suc, _+_, _<_, _≤_}
 use mathlib.Core.Path.{_≡_, refl, sym, ap, _∙_}
-use mathlib.Core.Bool.{Bool, true, false, not, _&&_, true≢false}
+use mathlib.Core.Bool.{Bool, true, false, _&&_, true≢false}
 use mathlib.Core.List.{List, [], _∷_, map}
 use mathlib.Core.Option.{Option, none, some}
 use native.Mathlib.Nat.{zero-add}
 use native.Mathlib.Omega.{arith}
 use lib.ListN.{length, take, length-append}
 use borrow.Author.Tests.{eq-eqb, ne-eqb, lt-ltb, le-ltb}
-use Rattle.sheet.specs.Lists.{Every, concatMap, filterb, from, elemb}
+use Rattle.sheet.specs.Lists.{Every, concatMap, filterb, from}
 use Rattle.sheet.proofs.Laws.{by-test, same-truth, and-parts}
 use Rattle.sheet.proofs.Lists.{filter-append, filter-same, count-map}
 use Rattle.route.specs.declared.Need.{Need}
 use Rattle.route.specs.Table.{Table, serves}
-use Rattle.route.specs.Way.{isWay, earliestWay}
+use Rattle.route.specs.Way.{fitsAll, isWay, earliestWay}
 use Rattle.route.specs.Tries.{isPartialWay, atOrBefore, counts, shortLists, triedWays, tries}
-use Rattle.route.specs.passes.Search.{attempt, pick, searchFrom, spent, tally, triesFrom, mayHave, takenBy, foundWay, triesMade}
+use Rattle.route.specs.passes.Search.{attempt, pick, searchFrom, spent, tally, triesFrom, mayHave, heldBy, foundWay, triesMade}
 use Rattle.route.proofs.Search.{Given}
-use Rattle.route.proofs.Ways.{served-low, given-way, from-start, none-taken}
+use Rattle.route.proofs.Ways.{served-low, from-start, to-way, none-held}
 use Rattle.route.proofs.AllWays.{SameServed, is-way, way-is, found-earliest, same-earliest}
 
 -- ---- how many lists pass a test, by their first entry
@@ -194,23 +194,23 @@ module _ {S N : Type 0} (ok : S → N → ℕ → Bool) (next : S → N → ℕ 
 
 -- ---- the tries of a LAB
 module _ (t : Table) (ns : List Need) where
-  partial-begin : (x : ℕ) (v : List ℕ) → isPartialWay t ns (x ∷ v) ≡ mayBegin (mayHave t) takenBy (none-taken t) ns (x ∷ v)
+  partial-begin : (x : ℕ) (v : List ℕ) → isPartialWay t ns (x ∷ v) ≡ mayBegin (mayHave t) heldBy (none-held t) ns (x ∷ v)
   unfolding isPartialWay
   partial-begin x v =
       let ms = take (length (x ∷ v)) ns in
-      same-truth (isPartialWay t ns (x ∷ v)) (mayBegin (mayHave t) takenBy (none-taken t) ns (x ∷ v))
-      (λ h. given-begin (mayHave t) takenBy (length t) (none-taken t) ns (x ∷ v) (from-start t ms (x ∷ v) (is-way t ms (x ∷ v) h)))
-      (λ h. way-is t ms (x ∷ v) (given-way t ms (none-taken t) (x ∷ v) (begin-given (mayHave t) takenBy (length t) low (none-taken t) ns (x ∷ v) h) .0))
+      same-truth (isPartialWay t ns (x ∷ v)) (mayBegin (mayHave t) heldBy (none-held t) ns (x ∷ v))
+      (λ h. given-begin (mayHave t) heldBy (length t) (none-held t) ns (x ∷ v) (from-start t ms (x ∷ v) (is-way t ms (x ∷ v) h)))
+      (λ h. way-is t ms (x ∷ v) (to-way t ms (x ∷ v) (begin-given (mayHave t) heldBy (length t) low (none-held t) ns (x ∷ v) h)))
     where
-      low : (taken : List Bool) (n : Need) (e : ℕ) → mayHave t taken n e ≡ true → e < length t
-      low taken n e q = served-low t e (n .role) (and-parts (serves t e (n .role)) _ q .0)
+      low : (held : List ℕ) (n : Need) (e : ℕ) → mayHave t held n e ≡ true → e < length t
+      low held n e q = served-low t e (n .role) (and-parts (serves t e (n .role)) _ q .0)
 
   -- M-106: THE SEARCH MAKES THESE TRIES
   pub made-tries : triesMade t ns ≡ tries t ns
   unfolding triesMade foundWay tries triedWays isPartialWay
   made-tries =
-      let found : searchFrom (mayHave t) takenBy (length t) (none-taken t) ns ≡ earliestWay t ns = found-earliest t ns in
-      sym (rw found at (search-tries (mayHave t) takenBy (length t) (none-taken t) ns (isPartialWay t ns) refl partial-begin))
+      let found : searchFrom (mayHave t) heldBy (length t) (none-held t) ns ≡ earliestWay t ns = found-earliest t ns in
+      sym (rw found at (search-tries (mayHave t) heldBy (length t) (none-held t) ns (isPartialWay t ns) refl partial-begin))
 
 pub no-tries : (t : Table) → tries t [] ≡ 0
 unfolding tries triedWays shortLists isPartialWay
@@ -266,8 +266,8 @@ module _ (t u : Table) (same : SameServed t u) where
   way-low [] (e ∷ w) q = absurd (true≢false (sym q))
   way-low (n ∷ ns) [] q = absurd (true≢false (sym q))
   way-low (n ∷ ns) (e ∷ w) q =
-      let parts = and-parts (serves t e (n .role) && not (elemb e w)) (isWay t ns w) q in
-      let here = and-parts (serves t e (n .role)) (not (elemb e w)) (parts .0) .0 in
+      let parts = and-parts (serves t e (n .role) && fitsAll n e ns w) (isWay t ns w) q in
+      let here = and-parts (serves t e (n .role)) (fitsAll n e ns w) (parts .0) .0 in
       ((served-low t e (n .role) here, served-low u e (n .role) (sym (same e (n .role)) ∙ here)), way-low ns w (parts .1))
 
   partial-low : (ns : List Need) (v : List ℕ) → isPartialWay t ns v ≡ true → Every (Both (length t) (length u)) v

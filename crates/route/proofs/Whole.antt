@@ -1,7 +1,6 @@
 -- The answer that `place` gives from the first need on is the one that `first_way` promises, and so are its tries. Assumes nothing.
 use Prim.Native.Nat.{ℕ, zero, suc, _-_, _<_, _≤_}
 use mathlib.Core.Path.{_≡_, refl, sym, ap, _∙_}
-use mathlib.Core.Bool.{false}
 use mathlib.Core.List.{List, [], _∷_, _++_}
 use mathlib.Core.Option.{Option, none, some}
 use native.Mathlib.Nat.{zero-add, sub-zero, zero-sub, suc-sub-suc}
@@ -12,7 +11,7 @@ use Rattle.route.specs.declared.Need.{Need}
 use Rattle.route.specs.Table.{Table, ENTRIES}
 use Rattle.route.specs.Way.{earliestWay}
 use Rattle.route.specs.Tries.{tries}
-use Rattle.route.specs.passes.Search.{searchFrom, triesFrom, mayHave, takenBy, foundWay, triesMade}
+use Rattle.route.specs.passes.Search.{searchFrom, triesFrom, mayHave, heldBy, foundWay, triesMade}
 use Rattle.route.specs.passes.Partial.{put, routedFrom, routedOf}
 use Rattle.route.proofs.AllWays.{found-earliest, earliest-some}
 use Rattle.route.proofs.Tries.{made-tries}
@@ -44,10 +43,10 @@ from-first (some w) h = rw (put-front w 8 255 (h w refl)) refl
 
 module _ (t : Table) (needs : List Need) (n count : ℕ) (rows : length t ≡ ENTRIES) (eight : length needs ≡ 8) where
   pub whole : take n needs ≡ take count needs
-      → routedFrom 0 (searchFrom (mayHave t) takenBy ENTRIES (replicate ENTRIES false) (slice 0 n needs)) ≡ routedOf (earliestWay t (take count needs))
+      → routedFrom 0 (searchFrom (mayHave t) heldBy ENTRIES (replicate ENTRIES 0) (slice 0 n needs)) ≡ routedOf (earliestWay t (take count needs))
   unfolding foundWay
   whole same =
-      ap (λ (size : ℕ). routedFrom 0 (searchFrom (mayHave t) takenBy size (replicate size false) (take n needs))) (sym rows)
+      ap (λ (size : ℕ). routedFrom 0 (searchFrom (mayHave t) heldBy size (replicate size 0) (take n needs))) (sym rows)
       ∙ ap (λ (ns : List Need). routedFrom 0 (foundWay t ns)) same
       ∙ ap (routedFrom 0) (found-earliest t (take count needs))
       ∙ from-first (earliestWay t (take count needs)) short
@@ -57,10 +56,10 @@ module _ (t : Table) (needs : List Need) (n count : ℕ) (rows : length t ≡ EN
 
   -- and so are its tries
   pub whole-tries : take n needs ≡ take count needs
-      → triesFrom (mayHave t) takenBy ENTRIES (replicate ENTRIES false) (slice 0 n needs) ≡ tries t (take count needs)
+      → triesFrom (mayHave t) heldBy ENTRIES (replicate ENTRIES 0) (slice 0 n needs) ≡ tries t (take count needs)
   unfolding triesMade
   whole-tries same =
-      ap (λ (size : ℕ). triesFrom (mayHave t) takenBy size (replicate size false) (take n needs)) (sym rows)
+      ap (λ (size : ℕ). triesFrom (mayHave t) heldBy size (replicate size 0) (take n needs)) (sym rows)
       ∙ ap (triesMade t) same
       ∙ made-tries t (take count needs)
 

@@ -1,5 +1,6 @@
 pub mod Table
 pub mod Way
+pub mod Shared
 pub mod Route
 pub mod Tries
 pub mod passes

@@ -1,5 +1,5 @@
--- Request M-106, "How many tries did the search make?": the tries of a LAB, counted over all lists of entries. Nothing here speaks of a search.
--- `t` is the entry table, `ns` are the LAB's needs. Assumes nothing.
+-- Request M-106, "How many tries did the search make?", with M-107's ways: the tries of a LAB, counted over all lists of entries. Nothing here speaks
+-- of a search. `t` is the entry table, `ns` are the LAB's needs. Assumes nothing.
 use Prim.Native.Nat.{ℕ, zero, suc, _<_, _≤_}
 use mathlib.Core.Path.{_≡_}
 use mathlib.Core.Logic.{_⊎_}
@@ -13,7 +13,8 @@ use Rattle.route.specs.declared.Need.{Need}
 use Rattle.route.specs.Table.{Table}
 use Rattle.route.specs.Way.{Way, isWay, earliestWay}
 
--- "first one or more needs given suitable, different entries": a way of the first one or more needs
+-- "first one or more needs given suitable .. entries", and M-107, "a partial way .. may repeat an entry only for the same net": a way of the first
+-- one or more needs
 unfoldable pub isPartialWay : Table → List Need → List ℕ → Bool
 isPartialWay t ns [] = false
 isPartialWay t ns (e ∷ v) = isWay t (take (length (e ∷ v)) ns) (e ∷ v)
@@ -70,9 +71,9 @@ InOrder [] = Unit
 InOrder (v ∷ vs) = ((w : List ℕ) → In w vs → Before v w) × InOrder vs
 
 -- THE THEOREM: the lists that are counted are the partial ways at or before the answer, all of them, each once; with eight needs and eight
--- entries they are at most 109,600
+-- entries they are at most 19,173,960, M-107's limit
 pub record TriesLaw : Type 0 where
   pub each : (t : Table) (ns : List Need) (v : List ℕ) → In v (triedWays t ns) → PartialWay t ns v × AtOrBefore v (earliestWay t ns)
   pub all : (t : Table) (ns : List Need) (v : List ℕ) → PartialWay t ns v → AtOrBefore v (earliestWay t ns) → In v (triedWays t ns)
   pub once : (t : Table) (ns : List Need) → InOrder (triedWays t ns)
-  pub most : (t : Table) (ns : List Need) → length t ≤ 8 → length ns ≤ 8 → tries t ns ≤ 109600
+  pub most : (t : Table) (ns : List Need) → length t ≤ 8 → length ns ≤ 8 → tries t ns ≤ 19173960

@@ -1,12 +1,13 @@
 use sheet::Signal;
 ghost use mathlib.Core.Path.{_≡_};
-ghost use mathlib.Core.Bool.{true, false};
+ghost use mathlib.Core.Bool.{true, false, cond, _&&_};
 ghost use Prim.Native.Nat.{_+_, _≤_, _<_};
+ghost use lib.ListN.{getD};
 ghost use lib.Seq.{slice};
-ghost use Rattle.route.specs.Table.{ENTRIES, needList, noNeeds, withNeed};
+ghost use Rattle.route.specs.Table.{ENTRIES, serves, needAt, needList, noNeeds, withNeed};
 ghost use Rattle.route.specs.Way.{earliestWay};
 ghost use Rattle.route.specs.Tries.{tries};
-ghost use Rattle.route.specs.passes.Search.{searchFrom, triesFrom, mayHave, takenBy};
+ghost use Rattle.route.specs.passes.Search.{searchFrom, triesFrom, holder, mayHave, heldBy, servesOther, isIdle};
 ghost use Rattle.route.specs.Route.{byteFor, eightBytes, labRouteOf};
 ghost use Rattle.route.specs.passes.Partial.{routedFrom, routedOf};
 
@@ -82,33 +83,123 @@ impl Needs {
     }
 }
 
-// Whether the need may have entry e: it serves the role and is not taken.
-fn may_have(table: EntryTable, taken: [bool; ENTRIES], need: Need, e: usize) -> bool
-    ensures { λ r. ⌜ r ≡ mayHave table taken need e ⌝ }
+// Whether entry e serves the role.
+fn serves(table: EntryTable, e: usize, role: u8) -> bool
+    ensures { λ r. ⌜ r ≡ serves table e role ⌝ }
 {
     if e < ENTRIES {
-        if taken[e] {
-            return false;
-        }
-        let role = need.role as usize;
-        if role < 5 {
-            return table[e][role];
+        let column = role as usize;
+        if column < 5 {
+            return table[e][column];
         }
     }
     false
 }
 
-// The earliest way for the needs from `at` to n that gives no taken entry, and the tries. The needs that remain are one fewer at each call.
+// What marks an entry that the need has: one more than the number of its net, so never 0.
+fn holder(need: Need) -> u16
+    ensures { λ r. ⌜ r ≡ holder need ⌝ }
+{
+    let signal = need.signal;
+    signal.net() + 1
+}
+
+// What marks entry e, 0 where it is free.
+fn holder_at(held: [u16; ENTRIES], e: usize) -> u16
+    ensures { λ r. ⌜ r ≡ getD held e 0 ⌝ }
+{
+    if e < ENTRIES {
+        return held[e];
+    }
+    0
+}
+
+// Whether the need may have entry e: it serves the role, and no need of another net has it.
+fn may_have(table: EntryTable, held: [u16; ENTRIES], need: Need, e: usize) -> bool
+    ensures { λ r. ⌜ r ≡ mayHave table held need e ⌝ }
+{
+    let mark = holder_at(held, e);
+    let mine = holder(need);
+    serves(table, e, need.role) & ((mark == 0) | (mark == mine))
+}
+
+// Whether entry e serves the other need, which is of another net.
+fn serves_other(table: EntryTable, need: Need, e: usize, other: Need) -> bool
+    ensures { λ r. ⌜ r ≡ servesOther table need e other ⌝ }
+{
+    let mine = need.signal;
+    let its = other.signal;
+    (its.net() != mine.net()) & serves(table, e, other.role)
+}
+
+// Whether it makes no difference to the needs after `at`, up to n, that this one is given entry e, which it may have.
+fn is_idle(
+    table: EntryTable,
+    needs: [Need; 8],
+    n: usize,
+    at: usize,
+    held: [u16; ENTRIES],
+    e: usize,
+) -> bool
+    requires { ⌜ (at < n) × (n ≤ 8) ⌝ }
+    ensures { λ r. ⌜ r ≡ isIdle table held (needAt needs at) (slice (at + 1) n needs) e ⌝ }
+{
+    if holder_at(held, e) != 0 {
+        return true;
+    }
+    let need = needs[at];
+    let mut i = at + 1;
+    while i < n {
+        let other = needs[i];
+        if serves_other(table, need, e, other) {
+            return false;
+        }
+        i += 1;
+    }
+    true
+}
+
+// The same where it is asked for.
+fn is_idle_if(
+    asked: bool,
+    table: EntryTable,
+    needs: [Need; 8],
+    n: usize,
+    at: usize,
+    held: [u16; ENTRIES],
+    e: usize,
+) -> bool
+    requires { ⌜ (at < n) × (n ≤ 8) ⌝ }
+    ensures { λ r. ⌜ r ≡ asked && isIdle table held (needAt needs at) (slice (at + 1) n needs) e ⌝ }
+{
+    if asked {
+        return is_idle(table, needs, n, at, held, e);
+    }
+    false
+}
+
+// The first number or the second.
+fn either(first: bool, a: u32, b: u32) -> u32
+    ensures { λ r. ⌜ r ≡ cond first a b ⌝ }
+{
+    if first {
+        return a;
+    }
+    b
+}
+
+// The earliest way for the needs from `at` to n that gives no entry held by another net, and the tries. The needs that remain are one fewer at each call.
+// Where an entry that makes no difference to the needs after this one has failed, the next such entry fails after as many tries.
 fn place(
     table: EntryTable,
     needs: [Need; 8],
     n: usize,
     at: usize,
-    taken: [bool; ENTRIES],
+    held: [u16; ENTRIES],
 ) -> WaySearch
     requires { ⌜ (at ≤ n) × (n ≤ 8) ⌝ }
-    ensures found { λ r. ⌜ r .way ≡ routedFrom at (searchFrom (mayHave table) takenBy ENTRIES taken (slice at n needs)) ⌝ }
-    ensures counted { λ r. ⌜ r .tries ≡ triesFrom (mayHave table) takenBy ENTRIES taken (slice at n needs) ⌝ }
+    ensures found { λ r. ⌜ r .way ≡ routedFrom at (searchFrom (mayHave table) heldBy ENTRIES held (slice at n needs)) ⌝ }
+    ensures counted { λ r. ⌜ r .tries ≡ triesFrom (mayHave table) heldBy ENTRIES held (slice at n needs) ⌝ }
 {
     if at == n {
         let way = Routed {
@@ -118,12 +209,20 @@ fn place(
         return WaySearch { way, tries: 0 };
     }
     let need = needs[at];
+    let mine = holder(need);
     let mut tries: u32 = 0;
+    let mut failed = false;
+    let mut again: u32 = 0;
     let mut e: usize = 0;
     while e < ENTRIES {
-        if may_have(table, taken, need, e) {
-            let mut more = taken;
-            more[e] = true;
+        if may_have(table, held, need, e) {
+            if is_idle_if(failed, table, needs, n, at, held, e) {
+                tries = tries + 1 + again;
+                e += 1;
+                continue;
+            }
+            let mut more = held;
+            more[e] = mine;
             let r = place(table, needs, n, at + 1, more);
             tries = tries + 1 + r.tries;
             let rest = r.way;
@@ -136,6 +235,9 @@ fn place(
                 };
                 return WaySearch { way, tries };
             }
+            let idle = is_idle_if(!failed, table, needs, n, at, held, e);
+            again = either(idle, r.tries, again);
+            failed = failed | idle;
         }
         e += 1;
     }
@@ -151,13 +253,13 @@ pub fn first_way(table: EntryTable, needs: Needs) -> WaySearch
     ensures found { λ r. ⌜ r .way ≡ routedOf (earliestWay table (needList needs)) ⌝ }
     ensures counted { λ r. ⌜ r .tries ≡ tries table (needList needs) ⌝ }
 {
-    let taken = [false; ENTRIES];
+    let held = [0u16; ENTRIES];
     let list = needs.list;
     let count = needs.count;
     if 8 < count {
-        return place(table, list, 8, 0, taken);
+        return place(table, list, 8, 0, held);
     }
-    place(table, list, count, 0, taken)
+    place(table, list, count, 0, held)
 }
 
 // The byte of need j of the role: the entry that it has, and 255 where there is no such need.
