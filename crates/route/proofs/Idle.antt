@@ -1,25 +1,22 @@
--- Entries that need no search of their own. States that allow the needs that are left the same have the same answer and the same tries; and to give a
--- need an entry that is its net's already, or that serves no later need of another net, changes nothing of what the needs after it may have.
--- Assumes nothing.
-use Prim.Native.Nat.{ℕ, zero, suc, _+_, _<_, _≤_}
+-- Entries that make no difference. States that allow the needs that are left the same have the same answer and the same tries; and to give a need an
+-- entry that is its net's already, or that serves no later need of another net, changes nothing of what the needs after it may have. Assumes nothing.
+use Prim.Native.Nat.{ℕ, zero, suc, _<_}
 use mathlib.Core.Path.{_≡_, refl, sym, ap, _∙_}
 use mathlib.Core.Logic.{inl, inr}
 use mathlib.Core.Bool.{Bool, true, false, not, _&&_, _||_}
 use mathlib.Core.List.{List, [], _∷_}
 use mathlib.Core.Option.{Option}
-use native.Mathlib.Numerals.{add-one}
 use native.Mathlib.Omega.{arith}
 use lib.ListN.{length, getD, set, length-set, List·getD-eq-default}
 use lib.Dec.{eqb, ltb}
-use lib.Seq.{slice, slice-cons, slice-empty, getD-set-same, getD-set-other}
-use borrow.Author.Tests.{eqb-true, eqb-false, eq-eqb, ne-eqb, ltb-true, ltb-false, not-true}
+use lib.Seq.{getD-set-same, getD-set-other}
+use borrow.Author.Tests.{eqb-true, eqb-false, eq-eqb, ltb-true, ltb-false, not-true}
 use Rattle.sheet.specs.Lists.{Every, anyb}
-use Rattle.sheet.proofs.Laws.{by-test, and-parts, or-parts}
+use Rattle.sheet.proofs.Laws.{by-test, or-parts}
 use Rattle.route.specs.declared.Need.{Need}
-use Rattle.route.specs.Table.{Table, ENTRIES, serves, needNet, needAt, noNeed}
+use Rattle.route.specs.Table.{Table, serves, needNet}
 use Rattle.route.specs.passes.Search.{pick, searchFrom, tally, triesFrom, holder, mayHave, heldBy, servesOther, isIdle}
-use Rattle.route.proofs.Ways.{Open, may-parts, open-test, same-mark}
-use Rattle.route.proofs.Turns.{NoChange}
+use Rattle.route.proofs.Ways.{Open, open-test, same-mark}
 
 -- ---- the same may be given, and the same is found after each entry
 module _ (ok may : ℕ → Bool) (rest found : ℕ → Option (List ℕ)) (same : (e : ℕ) → ok e ≡ may e) (finds : (e : ℕ) → rest e ≡ found e) where
@@ -147,56 +144,3 @@ module _ (t : Table) where
     idle-tries size ns h =
         tries-alike (mayHave t) heldBy size AlikeFor (λ s u k ks a. a .1 .0) (λ s u k ks a x. alike-after s u (a .0) k x ks (a .0, a .1 .1))
         (heldBy held n e) held ns (idle-alike ns h)
-
--- ---- the loop of `is_idle`: the needs after `at`, one by one
-module _ (t : Table) (needs : List Need) (n at e : ℕ) where
-  -- a need of those from i to n is of another net, and e serves it
-  abbrev othersFrom : ℕ → Bool
-  othersFrom i = anyb (servesOther t (needAt needs at) e) (slice i n needs)
-
-  -- none of those before i is such a need
-  abbrev pub NoneTo : ℕ → Type 0
-  NoneTo i = (i ≤ n) × (othersFrom (at + 1) ≡ othersFrom i)
-
-  pub idle-starts : at < n → NoneTo (at + 1)
-  idle-starts h = (omega arith, refl)
-
-  module _ (held : List ℕ) where
-    abbrev pub idleAfter : Bool
-    idleAfter = isIdle t held (needAt needs at) (slice (at + 1) n needs) e
-
-    pub idle-held : (getD held e 0 ≡ 0 → ⊥) → true ≡ idleAfter
-    idle-held h = rw (ne-eqb (getD held e 0) 0 h) refl
-
-  module _ (i : ℕ) (before : NoneTo i) where
-    need-next : i < n → n ≤ length needs → othersFrom i ≡ servesOther t (needAt needs at) e (needAt needs i) || othersFrom (i + 1)
-    need-next h l = rw (add-one i, slice-cons i n needs noNeed h l) refl
-
-    pub idle-goes : i < n → n ≤ length needs → servesOther t (needAt needs at) e (needAt needs i) ≡ false → NoneTo (i + 1)
-    idle-goes h l q = (omega arith, before .1 ∙ need-next h l ∙ rw q refl)
-
-    module _ (held : List ℕ) (free : getD held e 0 ≡ 0) where
-      pub idle-stops : i < n → n ≤ length needs → servesOther t (needAt needs at) e (needAt needs i) ≡ true → false ≡ idleAfter held
-      idle-stops h l q =
-          let some-other : othersFrom (at + 1) ≡ true = before .1 ∙ need-next h l ∙ rw q refl in
-          rw (eq-eqb (getD held e 0) 0 free, some-other) refl
-
-      pub idle-ends : n ≤ i → true ≡ idleAfter held
-      idle-ends h =
-          let last : i ≡ n = omega (arith, before .0) in
-          let no-other : othersFrom (at + 1) ≡ false = before .1 ∙ rw (last, slice-empty) refl in
-          rw (eq-eqb (getD held e 0) 0 free, no-other) refl
-
--- ---- what `place` learns where it asks
-module _ (t : Table) (held : List ℕ) (needs : List Need) (n at e : ℕ) (low : e < length held) (given : mayHave t held (needAt needs at) e ≡ true) where
-  pub idle-told : (asked told : Bool) → told ≡ asked && idleAfter t needs n at e held → told ≡ true
-      → (asked ≡ true) × NoChange (mayHave t) heldBy ENTRIES held needs n at e
-  idle-told asked told q h =
-      let parts = and-parts asked (idleAfter t needs n at e held) (sym q ∙ h) in
-      let here = may-parts t held (needAt needs at) e given .1 in (
-        parts .0,
-        (
-          idle-finds t held (needAt needs at) e low here ENTRIES (slice (at + 1) n needs) (parts .1),
-          idle-tries t held (needAt needs at) e low here ENTRIES (slice (at + 1) n needs) (parts .1),
-        ),
-      )

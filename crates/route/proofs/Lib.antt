@@ -11,6 +11,9 @@ mod Rows
 mod Steps
 mod Turns
 mod Idle
+mod Twins
+mod Later
+mod Repeats
 mod Whole
 mod Bytes
 mod TriesCases

@@ -2,7 +2,7 @@
 -- given is a parameter, as it is of the search. Assumes nothing.
 use Prim.Native.Nat.{ℕ, suc, _+_, _-_, _<_, _≤_}
 use mathlib.Core.Path.{_≡_, refl, sym, ap, _∙_}
-use mathlib.Core.Bool.{Bool, true, false, cond, _||_, or-false, true≢false}
+use mathlib.Core.Bool.{Bool, true, false, true≢false}
 use mathlib.Core.List.{List}
 use mathlib.Core.Option.{Option, none, some}
 use native.Mathlib.Numerals.{add-one}
@@ -74,15 +74,6 @@ module _ {S : Type 0} (ok : S → Need → ℕ → Bool) (next : S → Need → 
   abbrev pub Left : ℕ → ℕ → Type 0
   Left past e = (foundOf ≡ pickOf e) × (countOf ≡ past + tallyOf e)
 
-  -- the needs after this one find nothing where it changes nothing of their state, and make so many tries
-  abbrev pub Failed : Bool → ℕ → Type 0
-  Failed failed again =
-      failed ≡ true → (searchFrom ok next size s (slice (at + 1) n needs) ≡ none) × (triesFrom ok next size s (slice (at + 1) n needs) ≡ again)
-
-  -- entry e changes nothing of it
-  abbrev pub NoChange : ℕ → Type 0
-  NoChange e = (restOf e ≡ searchFrom ok next size s (slice (at + 1) n needs)) × (afterOf e ≡ triesFrom ok next size s (slice (at + 1) n needs))
-
   -- no need is left
   pub no-need : at ≡ n → _≡_ {A = Routed} (record { found = true; entries = replicate 8 255 }) (routedFrom at foundOf)
   no-need q = search-end ok next size s needs at n q
@@ -147,25 +138,17 @@ module _ {S : Type 0} (ok : S → Need → ℕ → Bool) (next : S → Need → 
         pub found-stops-tries : r .way .found ≡ true → past + 1 + r .tries ≡ countOf
         found-stops-tries f = omega (arith, tries-step, counted, last-spent (at + 1) (okOf e) (afterOf e) (tallyOf (e + 1)) given (restOf e) (r .way) found f)
 
-        -- what is known of entries that change nothing, after e
-        pub failed-kept : (idle failed : Bool) (again : ℕ) → (idle ≡ true → NoChange e) → Failed failed again → r .way .found ≡ false
-            → Failed (failed || idle) (cond idle (r .tries) again)
-        failed-kept true failed again same h f = λ q. (sym (same refl .0) ∙ found-none (at + 1) (restOf e) (r .way) found f, sym (same refl .1) ∙ sym counted)
-        failed-kept false failed again same h f = λ q. h (sym (or-false failed) ∙ q)
+        -- and the needs after it have nothing
+        pub nothing-found : r .way .found ≡ false → restOf e ≡ none
+        nothing-found = found-none (at + 1) (restOf e) (r .way) found
 
-      -- e is not searched: it changes nothing, and another such entry has failed
-      module _ (failed : Bool) (again : ℕ) (given : okOf e ≡ true) (h : Failed failed again) (known : failed ≡ true) (same : NoChange e) where
+      -- e is not searched: the needs after it find nothing, as is known, in so many tries
+      module _ (again : ℕ) (given : okOf e ≡ true) (nothing : restOf e ≡ none) (count : afterOf e ≡ again) where
         abbrev searched : WaySearch
         searched = record { way = record { found = false; entries = replicate 8 255 }; tries = again }
 
-        found-nothing : searched .way ≡ routedFrom (at + 1) (restOf e)
-        found-nothing = no-entry-left (at + 1) (restOf e) (same .0 ∙ h known .0)
-
-        made-again : searched .tries ≡ afterOf e
-        made-again = sym (same .1 ∙ h known .1)
-
         pub skip-room : past + 1 + again ≤ countOf
-        skip-room = turn-room searched given found-nothing made-again
+        skip-room = turn-room searched given (no-entry-left (at + 1) (restOf e) nothing) (sym count)
 
         pub skip-goes : Left (past + 1 + again) (e + 1)
-        skip-goes = not-found-goes searched given found-nothing made-again refl
+        skip-goes = not-found-goes searched given (no-entry-left (at + 1) (restOf e) nothing) (sym count) refl

@@ -1,13 +1,14 @@
 use sheet::Signal;
 ghost use mathlib.Core.Path.{_≡_};
-ghost use mathlib.Core.Bool.{true, false, cond, _&&_};
+ghost use mathlib.Core.Bool.{true, false};
 ghost use Prim.Native.Nat.{_+_, _≤_, _<_};
 ghost use lib.ListN.{getD};
 ghost use lib.Seq.{slice};
 ghost use Rattle.route.specs.Table.{ENTRIES, serves, needAt, needList, noNeeds, withNeed};
 ghost use Rattle.route.specs.Way.{earliestWay};
 ghost use Rattle.route.specs.Tries.{tries};
-ghost use Rattle.route.specs.passes.Search.{searchFrom, triesFrom, holder, mayHave, heldBy, servesOther, isIdle};
+ghost use Rattle.route.specs.passes.Search.{searchFrom, triesFrom, holder, mayHave, heldBy, servesOther, differFor, kindOf, failsLike};
+ghost use Rattle.sheet.specs.Lists.{anyb};
 ghost use Rattle.route.specs.Route.{byteFor, eightBytes, labRouteOf};
 ghost use Rattle.route.specs.passes.Partial.{routedFrom, routedOf};
 
@@ -132,64 +133,124 @@ fn serves_other(table: EntryTable, need: Need, e: usize, other: Need) -> bool
     (its.net() != mine.net()) & serves(table, e, other.role)
 }
 
-// Whether it makes no difference to the needs after `at`, up to n, that this one is given entry e, which it may have.
-fn is_idle(
-    table: EntryTable,
-    needs: [Need; 8],
-    n: usize,
-    at: usize,
-    held: [u16; ENTRIES],
-    e: usize,
-) -> bool
+// Whether entry e serves one of the needs after `at`, up to n, that is of another net.
+fn serves_others(table: EntryTable, needs: [Need; 8], n: usize, at: usize, e: usize) -> bool
     requires { ⌜ (at < n) × (n ≤ 8) ⌝ }
-    ensures { λ r. ⌜ r ≡ isIdle table held (needAt needs at) (slice (at + 1) n needs) e ⌝ }
+    ensures { λ r. ⌜ r ≡ anyb (servesOther table (needAt needs at) e) (slice (at + 1) n needs) ⌝ }
 {
-    if holder_at(held, e) != 0 {
-        return true;
-    }
     let need = needs[at];
     let mut i = at + 1;
     while i < n {
         let other = needs[i];
         if serves_other(table, need, e, other) {
-            return false;
+            return true;
         }
         i += 1;
     }
-    true
+    false
 }
 
-// The same where it is asked for.
-fn is_idle_if(
-    asked: bool,
+// 1 where it makes no difference to the needs after `at`, up to n, that this one is given entry e, which it may have; otherwise 2.
+fn kind_of(
     table: EntryTable,
     needs: [Need; 8],
     n: usize,
     at: usize,
     held: [u16; ENTRIES],
     e: usize,
-) -> bool
+) -> u8
     requires { ⌜ (at < n) × (n ≤ 8) ⌝ }
-    ensures { λ r. ⌜ r ≡ asked && isIdle table held (needAt needs at) (slice (at + 1) n needs) e ⌝ }
+    ensures { λ r. ⌜ r ≡ kindOf table held (needAt needs at) (slice (at + 1) n needs) e ⌝ }
 {
-    if asked {
-        return is_idle(table, needs, n, at, held, e);
+    if holder_at(held, e) != 0 {
+        return 1;
+    }
+    if serves_others(table, needs, n, at, e) {
+        return 2;
+    }
+    1
+}
+
+// Whether one of the entries f and e serves the need and the other does not.
+fn differ_for(table: EntryTable, f: usize, e: usize, need: Need) -> bool
+    ensures { λ r. ⌜ r ≡ differFor table f e need ⌝ }
+{
+    let second = serves(table, e, need.role);
+    if serves(table, f, need.role) {
+        return !second;
+    }
+    second
+}
+
+// Whether that is so of one of the needs after `at`, up to n.
+fn differ(table: EntryTable, needs: [Need; 8], n: usize, at: usize, f: usize, e: usize) -> bool
+    requires { ⌜ (at < n) × (n ≤ 8) ⌝ }
+    ensures { λ r. ⌜ r ≡ anyb (differFor table f e) (slice (at + 1) n needs) ⌝ }
+{
+    let mut i = at + 1;
+    while i < n {
+        let other = needs[i];
+        if differ_for(table, f, e, other) {
+            return true;
+        }
+        i += 1;
     }
     false
 }
 
-// The first number or the second.
-fn either(first: bool, a: u32, b: u32) -> u32
-    ensures { λ r. ⌜ r ≡ cond first a b ⌝ }
+// Whether e, of this kind, fails as f did, of which `noted` was noted.
+fn fails_like(
+    table: EntryTable,
+    needs: [Need; 8],
+    n: usize,
+    at: usize,
+    noted: u8,
+    kind: u8,
+    f: usize,
+    e: usize,
+) -> bool
+    requires { ⌜ (at < n) × (n ≤ 8) ⌝ }
+    ensures { λ r. ⌜ r ≡ failsLike table (slice (at + 1) n needs) noted kind f e ⌝ }
 {
-    if first {
-        return a;
+    if noted != kind {
+        return false;
     }
-    b
+    if kind == 1 {
+        return true;
+    }
+    !differ(table, needs, n, at, f, e)
+}
+
+// An entry that failed as e does, where one has failed and there is such an entry; otherwise ENTRIES.
+fn failed_like(
+    failed: bool,
+    noted: [u8; ENTRIES],
+    table: EntryTable,
+    needs: [Need; 8],
+    n: usize,
+    at: usize,
+    held: [u16; ENTRIES],
+    e: usize,
+) -> usize
+    requires { ⌜ (at < n) × (n ≤ 8) ⌝ }
+    ensures { λ r. ⌜ (r < ENTRIES → failsLike table (slice (at + 1) n needs) (getD noted r 0) (kindOf table held (needAt needs at) (slice (at + 1) n needs) e) r e ≡ true) ⌝ }
+{
+    if failed {
+        let kind = kind_of(table, needs, n, at, held, e);
+        let mut f: usize = 0;
+        while f < ENTRIES {
+            let mark = noted[f];
+            if fails_like(table, needs, n, at, mark, kind, f, e) {
+                return f;
+            }
+            f += 1;
+        }
+    }
+    ENTRIES
 }
 
 // The earliest way for the needs from `at` to n that gives no entry held by another net, and the tries. The needs that remain are one fewer at each call.
-// Where an entry that makes no difference to the needs after this one has failed, the next such entry fails after as many tries.
+// Where an entry has failed, another that is like it to the needs after this one fails after as many tries, and is not searched.
 fn place(
     table: EntryTable,
     needs: [Need; 8],
@@ -212,11 +273,14 @@ fn place(
     let mine = holder(need);
     let mut tries: u32 = 0;
     let mut failed = false;
-    let mut again: u32 = 0;
+    let mut noted = [0u8; ENTRIES];
+    let mut made = [0u32; ENTRIES];
     let mut e: usize = 0;
     while e < ENTRIES {
         if may_have(table, held, need, e) {
-            if is_idle_if(failed, table, needs, n, at, held, e) {
+            let f = failed_like(failed, noted, table, needs, n, at, held, e);
+            if f < ENTRIES {
+                let again = made[f];
                 tries = tries + 1 + again;
                 e += 1;
                 continue;
@@ -235,9 +299,9 @@ fn place(
                 };
                 return WaySearch { way, tries };
             }
-            let idle = is_idle_if(!failed, table, needs, n, at, held, e);
-            again = either(idle, r.tries, again);
-            failed = failed | idle;
+            noted[e] = kind_of(table, needs, n, at, held, e);
+            made[e] = r.tries;
+            failed = true;
         }
         e += 1;
     }
