@@ -77,18 +77,20 @@ enum {
  * settings   a sheet that is none gives a verdict of 70 to 75, after 1 and 3 and before all others. The board's number changes no
  *            verdict.
  * route      where the verdict is 0, all 8,192 bytes are written: for LAB n the eight bytes from 8 * n on are the control entries
- *            of two clk, two ena, two aclr, sclr and sload, NURIMKKOT_NO_ENTRY where there is no need. Where the verdict is another,
- *            not one byte is touched. A buffer that isn't exactly 8,192 bytes long gives verdict 1.
+ *            of two clk, two ena, two aclr, sclr and sload, NURIMKKOT_NO_ENTRY where there is no need. Several of the eight may hold
+ *            the same entry: the needs are then of one net, in either polarity. Where the verdict is another, not one byte is touched.
+ *            A buffer that isn't exactly 8,192 bytes long gives verdict 1.
  * tries      where the verdict is 0 or 65, all 1,024 numbers are written: number n is how many tries the search for the control
  *            entries of LAB n made. It is 0 for an empty LAB, for one without needs and, on 65, for one above the LAB at fault. Where
  *            the verdict is another, not one number is touched. `tries_count` is in numbers, not in bytes; one that isn't exactly
  *            1,024 gives verdict 3, right after 1 and before all others.
  * numbers    all seven are written, whatever the verdict.
  *
- * A try gives the first one or more of a LAB's needs an entry each, different ones that serve their roles. Of two that differ, the one
- * with the smaller entry at the first need where they do comes first, and a shorter one comes before those that extend it. The tries of
- * a LAB are those up to its route, the route itself counted; where it has none (65), all there are. That is at most 109,600 with eight
- * needs and eight entries. */
+ * A try gives the first one or more of a LAB's needs an entry each that serves its role; two of them have the same entry only where they
+ * are of one net, in either polarity. Of two tries that differ, the one with the smaller entry at the first need where they do comes
+ * first, and a shorter one comes before those that extend it. The tries of a LAB are those up to its route, the route itself counted;
+ * where it has none (65), all there are. That is at most 19,173,960 with eight needs and eight entries. 1,024 times as much is more than
+ * 32 bits hold: add the numbers up in 64. */
 void nurimkkot_judge(const uint8_t *settings, size_t settings_length,
                      const uint8_t *exercise, size_t exercise_length,
                      const uint8_t *answer, size_t answer_length,

@@ -10,8 +10,7 @@ int main(int argc, char **argv)
 {
     static uint8_t settings[SETTINGS_ROOM], exercise[EXERCISE_ROOM], answer[ANSWER_ROOM], route[NURIMKKOT_ROUTE_SIZE];
     static uint32_t tries[NURIMKKOT_TRIES];
-    uint64_t numbers[NURIMKKOT_NUMBERS];
-    unsigned long sum = 0;
+    uint64_t numbers[NURIMKKOT_NUMBERS], sum = 0;
     size_t settings_length = read_board(&argc, &argv, settings), exercise_length, answer_length, lab;
 
     if (argc != 3) {
@@ -31,6 +30,6 @@ int main(int argc, char **argv)
             printf("lab %zu tries %lu\n", lab, (unsigned long)tries[lab]);
         sum += tries[lab];
     }
-    printf("sum %lu\n", sum);
+    printf("sum %llu\n", (unsigned long long)sum);
     return 0;
 }

@@ -653,10 +653,10 @@ class Tries:
         where = "" if self.expected.lab == NONE else ", LAB %d" % self.expected.lab
         text = "verdict %d on the board of %s%s: %s\n" % (
             self.expected.number, self.board, where, self.MEANING[self.expected.number])
-        text += " lab     tries  route\n"
+        text += " lab       tries  route\n"
         for lab, tries, number, route in self.expected.tries:
-            text += "%4d  %8d  %s\n" % (lab, tries, self.words(number, route))
-        return text + " sum  %8d\n" % sum(line[1] for line in self.expected.tries)
+            text += "%4d  %10d  %s\n" % (lab, tries, self.words(number, route))
+        return text + " sum  %10d\n" % sum(line[1] for line in self.expected.tries)
 
     def csv(self):
         """The same with --csv."""
@@ -1202,10 +1202,11 @@ def legal_samples():
                            q=net(0))),
            answer(501, (10, 1, 0)),
            legal(501, 15, {42: EMPTY}))
-    sample("legal-one-net-three-roles", "one net at clk, aclr and sclr: three needs",
+    sample("legal-one-net-three-roles", "one net at clk, aclr and sclr: three needs, which take "
+           "0, 1 and 4, the lowest entry each; none is shared",
            exercise(3, reg(d=net(1), clk=net(0), aclr=net(0), sclr=net(0), q=net(2))),
            answer(502, (11, 1, 0)),
-           legal(502, 15, {43: [0, F, F, F, 1, F, 4, F]}))
+           legal(502, 15, {43: [0, F, F, F, 1, F, 4, F]}, {43: 3}))
     sample("legal-open-enable", "an open ena and ena at VCC are one: two pairs with a third",
            exercise(6, reg(d=net(2), clk=net(0), q=net(3)),
                     reg(d=net(3), clk=net(0), ena=VCC, q=net(4)),
@@ -1233,10 +1234,10 @@ def legal_samples():
            exercise(5, comb(a=net(0), o=net(2)), reg(d=net(3), clk=net(1), ena=net(2), q=net(4))),
            answer(507, (16, 1, 0), (16, 1, 0)),
            legal(507, 19, {48: [0, F, 2, F, F, F, F, F]}))
-    sample("legal-clock-and-inverse", "a clock and its inverse are two needs",
+    sample("legal-clock-and-inverse", "a clock and its inverse are two needs; they share entry 0",
            exercise(4, reg(d=net(1), clk=inv(0), q=net(2)), reg(d=net(2), clk=net(0), q=net(3))),
            answer(508, (17, 1, 0), (17, 1, 1)),
-           legal(508, 19, {49: [0, 1, F, F, F, F, F, F]}))
+           legal(508, 19, {49: [0, 0, F, F, F, F, F, F]}, {49: 2}))
     sample("legal-three-labs", "three LABs, each with its own route, listed in rising order",
            exercise(9,
                     reg(d=net(4), clk=net(0), ena=net(1), aclr=net(2), q=net(5)),
@@ -1332,18 +1333,23 @@ def board_samples():
            settings(SLOAD, SCLR, ACLR, ACLR, ENA, ENA, CLK, CLK))
 
 
+NO_SLOAD = [CLK + ENA + ACLR + SCLR] * 8        # eight entries that serve all roles but sload
+
+
 def tries_samples():
     """The tries of the search for a route."""
     sample("legal-11-tries", "two clk, one ena, two aclr, sclr: 11 tries, the most of a legal LAB "
-           "on document 01's board; the lowest free entry each time finds no way",
+           "on document 01's board where all nets are different; the lowest free entry each time "
+           "finds no way",
            exercise(9,
                     reg(d=net(6), clk=net(0), ena=net(2), aclr=net(3), sclr=net(5), q=net(7)),
                     reg(d=net(7), clk=net(1), aclr=net(4), q=net(8))),
            answer(1710, (12, 2, 0), (12, 2, 1)),
            legal(1710, 19, {76: [0, 2, 3, F, 1, 4, 5, F]}, {76: 11}))
 
-    sample("v65-35-tries", "LAB 70 is refused after 35 tries, the most on document 01's board; "
-           "the LABs below have theirs, those above, one with three clocks, are not searched",
+    sample("v65-35-tries", "LAB 70 is refused after 35 tries, the most on document 01's board "
+           "where all nets are different; the LABs below have theirs, those above, one with three "
+           "clocks, are not searched",
            exercise(19, comb(a=net(9), o=net(10)),
                     reg(d=net(10), clk=net(0), aclr=net(3), q=net(11)),
                     reg(d=net(11), clk=net(1), aclr=net(4), q=net(12)),
@@ -1359,22 +1365,116 @@ def tries_samples():
                            (70, 35, 65, EMPTY), (71, 0, None, EMPTY), (100, 0, None, EMPTY)]))
 
     # The eight needs of board-eight-needs. Each entry serves clk, ena, aclr and sclr.
-    four = CLK + ENA + ACLR + SCLR
     sheets = next((ex, an) for name, _, ex, an, _, _ in SAMPLES if name == "board-eight-needs")
     # 8 + 56 + 336 + 1680 + 6720 + 20160 + 40320, one to seven needs on eight entries.
-    sample("board-69280-tries", "eight needs, and eight entries that serve clk, ena, aclr and "
-           "sclr, none sload: 65 after 69,280 tries", *sheets,
+    sample("board-69280-tries", "eight needs of different nets, and eight entries that serve clk, "
+           "ena, aclr and sclr, none sload: 65 after 69,280 tries", *sheets,
            Expected(65, ("answer", 11, 4), lab=104, apprentice=1700,
-                    tries=[(104, 69280, 65, EMPTY)]), settings(*[four] * 8))
+                    tries=[(104, 69280, 65, EMPTY)]), settings(*NO_SLOAD))
     # With entry 0 at the first need 8660 tries, at the second 1237, then 206, 41, 10, 3 and 1, and
     # none of them leads to a way; and the eight that lead to the route.
     sample("board-10166-tries", "the same where entry 0 serves sload too: legal, and the search "
            "gives entry 0 to each need before sload first", *sheets,
            legal(1700, 19, {104: [1, 2, 3, 4, 5, 6, 7, 0]}, {104: 10166}),
-           settings(four + SLOAD, *[four] * 7))
+           settings(NO_SLOAD[0] + SLOAD, *NO_SLOAD[1:]))
     sample("board-8-tries", "the same where entry 7 serves sload, not entry 0: one try a need",
            *sheets, legal(1700, 19, {104: [0, 1, 2, 3, 4, 5, 6, 7]}, {104: 8}),
-           settings(*[four] * 7, four + SLOAD))
+           settings(*NO_SLOAD[:7], NO_SLOAD[7] + SLOAD))
+
+
+def one_net_samples():
+    """Needs of one net, which may share an entry that serves their roles."""
+    sample("legal-clock-and-clear", "one net as clk and aclr: entries 0 and 1, though both could "
+           "have 1",
+           exercise(3, reg(d=net(1), clk=net(0), aclr=net(0), q=net(2))),
+           answer(1720, (0, 7, 0)),
+           legal(1720, 15, {224: [0, F, F, F, 1, F, F, F]}, {224: 2}))
+    sample("legal-only-shared", "the needs of p11, but the two clk are a net and its inverse: "
+           "they share entry 0, and no way does without that",
+           exercise(8,
+                    reg(d=net(5), clk=net(0), ena=net(1), aclr=net(3), q=net(6)),
+                    reg(d=net(6), clk=inv(0), ena=net(2), aclr=net(4), q=net(7))),
+           answer(1721, (1, 7, 0), (1, 7, 1)),
+           legal(1721, 19, {225: [0, 0, 2, 3, 1, 4, F, F]}, {225: 6}))
+
+    def eight(sload):
+        """Two clk of one net, two ena, two aclr, sclr and sload; the sclr is net 5."""
+        return (reg(d=net(7), clk=net(0), ena=net(1), aclr=net(3), sclr=net(5), sload=net(sload),
+                    sdata=net(8), q=net(9)),
+                reg(d=net(9), clk=inv(0), ena=net(2), aclr=net(4), q=net(10)))
+
+    sample("legal-eight-needs", "the same, and one net as sclr and sload, which share entry 5: "
+           "eight needs on six entries",
+           exercise(11, *eight(5)),
+           answer(1722, (2, 7, 0), (2, 7, 1)),
+           legal(1722, 19, {226: [0, 0, 2, 3, 1, 4, 5, 5]}, {226: 8}))
+    # 3 + 9 for the two clk. Where one of them has entry 2, 5 times, an ena has 3, and the other
+    # none. Where not, 4 times, 2 + 2 for the two ena; and then, where a clk has entry 1, 3 x 2
+    # times, an aclr has 4, and the other none. For 0 0, twice, 2 + 2 for the two aclr; and then, 4
+    # times, sclr has 5, and sload none. 12 + 5 + 16 + 6 + 8 + 4.
+    sample("v65-two-nets", "the same with different nets as sclr and sload: both need entry 5, "
+           "which serves both roles, but needs of different nets may not share it",
+           exercise(13, *eight(6),
+                    reg(d=net(10), clk=net(0), q=net(11)), reg(d=net(11), clk=inv(0), q=net(12))),
+           answer(1723, (4, 7, 0), (4, 7, 1), (3, 7, 0), (3, 7, 1)),
+           Expected(65, ("answer", 11, 4), lab=228, apprentice=1723,
+                    tries=[(227, 2, 0, [0, 0, F, F, F, F, F, F]), (228, 51, 65, EMPTY)]))
+    sample("legal-shared-not-needed", "two clk, two aclr, and one net as ena and sload: the "
+           "earliest way gives both entry 3, though sload could have 5",
+           exercise(9,
+                    reg(d=net(5), clk=net(0), ena=net(2), aclr=net(3), sload=net(2), sdata=net(6),
+                        q=net(7)),
+                    reg(d=net(7), clk=net(1), aclr=net(4), q=net(8))),
+           answer(1724, (5, 7, 0), (5, 7, 1)),
+           legal(1724, 19, {229: [0, 2, 3, F, 1, 4, F, 3]}, {229: 11}))
+
+    # 21 tries with entry 0 at clk A, 16 with entry 1, and none of them leads to a way; and the
+    # eight that lead to the route.
+    sample("legal-45-tries", "clk A, clk B, ena A and its inverse, two aclr, sclr, sload: clk A "
+           "and both ena share entry 2, after 45 tries, the most of a legal LAB on document 01's "
+           "board",
+           exercise(10,
+                    reg(d=net(6), clk=net(0), ena=net(0), aclr=net(2), sclr=net(4), sload=net(5),
+                        sdata=net(7), q=net(8)),
+                    reg(d=net(8), clk=net(1), ena=inv(0), aclr=net(3), q=net(9))),
+           answer(1725, (6, 7, 0), (6, 7, 1)),
+           legal(1725, 19, {230: [2, 0, 2, 2, 1, 4, 5, 3]}, {230: 45}))
+    # 3 + 9 for the two clk, 18 + 13 for the two ena, 26 + 18 for the two aclr, 18 for sclr.
+    sample("v65-105-tries", "clk A and its inverse, ena A and B, aclr A and C, sclr, sload: 65 "
+           "after 105 tries, the most on document 01's board",
+           exercise(9,
+                    reg(d=net(5), clk=net(0), ena=net(0), aclr=net(0), sclr=net(3), sload=net(4),
+                        sdata=net(6), q=net(7)),
+                    reg(d=net(7), clk=inv(0), ena=net(1), aclr=net(2), q=net(8))),
+           answer(1726, (7, 7, 0), (7, 7, 1)),
+           Expected(65, ("answer", 11, 4), lab=231, apprentice=1726, tries=[(231, 105, 65, EMPTY)]))
+
+    sample("board-three-roles-one-entry", "a board whose entry 1 serves clk, aclr and sclr: three "
+           "needs of one net share it",
+           exercise(3, reg(d=net(1), clk=net(0), aclr=inv(0), sclr=net(0), q=net(2))),
+           answer(1727, (8, 7, 0)),
+           legal(1727, 15, {232: [1, F, F, F, 1, F, 1, F]}, {232: 3}),
+           settings(ENA, CLK + ACLR + SCLR, ENA + SLOAD))
+    sample("board-two-nets-one-entry", "one entry, which serves clk and aclr, and two nets: no way",
+           LISTING_EX, LISTING_AN,
+           Expected(65, ("answer", 11, 4), lab=34, apprentice=7, tries=[(34, 1, 65, EMPTY)]),
+           settings(CLK + ACLR))
+
+    # One net at all control ports.
+    sheets = (exercise(5,
+                       reg(d=net(1), clk=net(0), ena=net(0), aclr=net(0), sclr=net(0),
+                           sload=net(0), sdata=net(2), q=net(3)),
+                       reg(d=net(3), clk=inv(0), ena=inv(0), aclr=inv(0), q=net(4))),
+              answer(1728, (9, 7, 0), (9, 7, 1)))
+    # 8 + 64 + 512 + 4096 + 32768 + 262144 + 2097152, one to seven needs on eight entries.
+    sample("board-2396744-tries", "eight needs of one net on the board of board-69280-tries: 65 "
+           "after 2,396,744 tries, the most of all", *sheets,
+           Expected(65, ("answer", 11, 4), lab=233, apprentice=1728,
+                    tries=[(233, 2396744, 65, EMPTY)]), settings(*NO_SLOAD))
+    sample("board-one-net-8-tries", "the same where entry 0 serves sload too: all eight needs "
+           "share it, one try a need", *sheets,
+           legal(1728, 19, {233: [0, 0, 0, 0, 0, 0, 0, 0]}, {233: 8}),
+           settings(NO_SLOAD[0] + SLOAD, *NO_SLOAD[1:]))
 
 
 # ---------------------------------------------------------------- the class
@@ -1634,6 +1734,7 @@ def all_samples():
         settings_samples()
         board_samples()
         tries_samples()
+        one_net_samples()
     return SAMPLES
 
 

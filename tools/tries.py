@@ -25,7 +25,7 @@ LEGAL, NO_WAY = 0, 65                   # the verdicts with which there are trie
 ROUTE_BYTES = ("clk_1", "clk_2", "ena_1", "ena_2", "aclr_1", "aclr_2", "sclr", "sload")     # what each route byte of a LAB is for
 NO_ENTRY = 255                          # in a route byte
 NO_ROUTE = bytes([NO_ENTRY] * len(ROUTE_BYTES))
-MOST_TRIES = 109600                     # of a LAB, with eight needs and eight entries
+MOST_TRIES = 19173960                   # of a LAB, with eight needs and eight entries
 LENT_ROUTE, LENT_TRIES = bytes([0xa5] * shared.ROUTE), [0xa5a5a5a5] * shared.TRIES      # what is lent, before the call
 
 
@@ -119,7 +119,7 @@ def check_lists(judged, labs):
 # ---------------------------------------------------------------- lines
 
 HEADINGS = ("lab", "tries", "route")
-COLUMNS, SUM_COLUMNS = "%4s  %8s  %s", "%4s  %8s"       # as wide as the largest numbers
+COLUMNS, SUM_COLUMNS = "%4s  %10s  %s", "%4s  %10s"     # as wide as the largest numbers
 CSV_HEADINGS = ("lab", "tries", "number") + ROUTE_BYTES
 
 

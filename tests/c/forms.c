@@ -3,6 +3,7 @@
  * sheet and list so that valgrind sees a read past the end. */
 #include "boards.h"
 #include "records.h"
+#include "sharing.h"
 
 static const uint8_t NO_ROUTE[8] = {255, 255, 255, 255, 255, 255, 255, 255};
 
@@ -273,6 +274,8 @@ static void lists(void)
     cells[1] = reg(5, 0, 0, 22);
     cells[2] = reg(0, 0, 0, 24);
     check("clocks A, inverse of A and GND", cells, 3, 60, NO_ROUTE);
+    cells[2] = reg(6, 0, 0, 24);
+    check("clocks of two nets, three signals", cells, 3, 60, NO_ROUTE);
     cells[0] = reg(4, 6, 0, 20);
     cells[1] = reg(4, 8, 0, 22);
     cells[2] = reg(10, 6, 0, 24);
@@ -280,6 +283,8 @@ static void lists(void)
     for (i = 0; i < 3; i++)
         cells[i] = reg(4, 0, (uint16_t)(10 + 2 * i), (uint16_t)(20 + 2 * i));
     check("three aclr", cells, 3, 62, NO_ROUTE);
+    cells[1] = reg(4, 0, 11, 22);
+    check("aclr of two nets, three signals", cells, 3, 62, NO_ROUTE);
     for (i = 0; i < 2; i++)
         cells[i] = with(reg(4, 0, 0, (uint16_t)(20 + 2 * i)), SCLR, (uint16_t)(10 + 2 * i));
     check("two sclr", cells, 2, 63, NO_ROUTE);
@@ -334,39 +339,63 @@ static void no_board(const char *what, uint8_t number)
     check("the board before 65", cells, 2, number, NO_ROUTE);
 }
 
-/* Two registers with the first so many of two clk, two ena, two aclr, sclr and sload as nets. GND and VCC need no entry. */
-static void with_needs(struct nurimkkot_cell *cells, int needs)
+/* Two registers with the first so many of two clk, two ena, two aclr, sclr and sload as nets, all different or all the same one, which two of a
+ * role have in both polarities. GND and VCC need no entry. */
+static void with_needs(struct nurimkkot_cell *cells, int needs, int one_net)
 {
     static const int port[8] = {CLK, CLK, ENA, ENA, ACLR, ACLR, SCLR, SLOAD};
     int i;
     for (i = 0; i < 2; i++)
         cells[i] = with(reg(1, 2, 1, (uint16_t)(100 + 2 * i)), SDATA, 2);
     for (i = 0; i < needs; i++)
-        cells[i < 6 ? i % 2 : 0].signals[port[i]] = (uint16_t)(4 + 2 * i);
+        cells[i < 6 ? i % 2 : 0].signals[port[i]] = (uint16_t)(4 + (one_net ? i % 2 : 2 * i));
 }
 
-/* So many needs on a board of so many entries that serve everything: a need gets the entry of its own number, where there are enough. The
- * entries past the last one serve nothing. */
+/* So many needs on a board of so many entries that serve everything: a need gets the entry of its own number, where there are enough, and with
+ * one net for all each gets entry 0. The entries past the last one serve nothing. */
 static void needs_and_entries(void)
 {
     uint8_t settings[NURIMKKOT_MOST_SETTINGS] = {'L', 'X', 'T', 1, 0, 0}, route[8];
     struct nurimkkot_cell cells[2];
-    int needs, entries, version, i;
+    int needs, entries, version, one_net, i;
     memset(settings + 6, 31, 10);
     for (version = 1; version <= 2; version++)
         for (entries = 0; entries <= 8; entries++)
-            for (needs = 0; needs <= 8; needs++) {
-                settings[3] = (uint8_t)version;
-                settings[5] = (uint8_t)entries;
-                with_needs(cells, needs);
-                for (i = 0; i < 8; i++)
-                    route[i] = (uint8_t)(i < needs && needs <= entries ? i : 255);
-                check_by(settings, (size_t)(version == 1 ? 6 : 8) + (size_t)entries);
-                check("needs and entries", cells, 2, needs <= entries ? 0 : 65, route);
-            }
+            for (needs = 0; needs <= 8; needs++)
+                for (one_net = 0; one_net < 2; one_net++) {
+                    int enough = (one_net && needs > 0 ? 1 : needs) <= entries;
+                    settings[3] = (uint8_t)version;
+                    settings[5] = (uint8_t)entries;
+                    with_needs(cells, needs, one_net);
+                    for (i = 0; i < 8; i++)
+                        route[i] = (uint8_t)(i >= needs || !enough ? 255 : one_net ? 0 : i);
+                    check_by(settings, (size_t)(version == 1 ? 6 : 8) + (size_t)entries);
+                    check("needs and entries", cells, 2, enough ? 0 : 65, route);
+                }
 }
 
-/* Eight needs on eight entries that each serve one role, in other orders; then with one entry that serves nothing. */
+/* The LABs with several needs of one net, as lists; a third register with the signals of the first has no needs more. */
+static void one_net(void)
+{
+    uint8_t settings[6 + NURIMKKOT_MOST_ENTRIES] = {'L', 'X', 'T', 1, 0};
+    struct nurimkkot_cell cells[3];
+    size_t i;
+    int k;
+    for (i = 0; i < SHARED_COUNT; i++) {
+        const uint16_t *code = SHARED[i].signals.code;
+        settings[5] = (uint8_t)SHARED[i].entries;
+        memcpy(settings + 6, SHARED[i].flags, SHARED[i].entries);
+        check_by(settings, 6 + SHARED[i].entries);
+        for (k = 0; k < 2; k++)
+            cells[k] = reg(code[k] ? code[k] : 1, code[2 + k], code[4 + k], (uint16_t)(100 + 2 * k));
+        cells[0] = with(with(with(cells[0], SCLR, code[6]), SLOAD, code[7]), SDATA, 2);
+        cells[2] = with(cells[0], REGOUT, 104);
+        check(SHARED[i].what, cells, 2, SHARED[i].number, SHARED[i].route);
+        check(SHARED[i].what, cells, 3, SHARED[i].number, SHARED[i].route);
+    }
+}
+
+/* Eight needs of different nets on eight entries that each serve one role, in other orders; then with one entry that serves nothing. */
 static void eight_needs(void)
 {
     static const uint8_t role[8] = {NURIMKKOT_CLK, NURIMKKOT_CLK, NURIMKKOT_ENA, NURIMKKOT_ENA, NURIMKKOT_ACLR, NURIMKKOT_ACLR,
@@ -374,7 +403,7 @@ static void eight_needs(void)
     uint8_t settings[14] = {'L', 'X', 'T', 1, 0, 8}, route[8];
     struct nurimkkot_cell cells[2];
     int first, i;
-    with_needs(cells, 8);
+    with_needs(cells, 8, 0);
     check_by(settings, sizeof settings);
     for (first = 0; first < 8; first++) {
         /* Entry (first + i) mod 8 has the role of need i; of two with the same role the lower entry goes to the first need. */
@@ -444,6 +473,7 @@ static void boards(void)
         check_once("one bit of the settings changed", NULL, 0, settings_number(damaged, sizeof damaged), NO_ROUTE);
     }
     needs_and_entries();
+    one_net();
     eight_needs();
     second_board();
     check_by(HOUSE, sizeof HOUSE);

@@ -33,7 +33,7 @@ static void see_tries(const uint32_t *guarded, size_t count, int written)
         expect(list[count + i] == UNTOUCHED, "guard behind the tries", (long)i);
     }
     for (i = 0; i < count; i++)
-        expect(written ? list[i] <= 109600 : list[i] == UNTOUCHED, written ? "tries not written" : "tries touched on a refusal", (long)i);
+        expect(written ? list[i] <= 19173960 : list[i] == UNTOUCHED, written ? "tries not written" : "tries touched on a refusal", (long)i);
 }
 
 /* Judges with a route buffer, a list of tries and numbers between guards, and copies them to `route`, `tries` and `numbers`. */
@@ -102,11 +102,15 @@ static void no_board(const char *what, uint8_t number)
     }
 }
 
-/* The worked listing on the board: clk and aclr get these entries after so many tries, or, where clk is 255, the LAB is refused with 65. */
-static void on_board(const char *what, uint8_t clk, uint8_t aclr, uint32_t searched)
+/* The worked listing on the board, with this signal at aclr: clk and aclr get these entries after so many tries, or, where clk is 255, the LAB is
+ * refused with 65. */
+static void with_aclr(const char *what, uint8_t signal, uint8_t clk, uint8_t aclr, uint32_t searched)
 {
+    uint8_t exercise[sizeof EXERCISE];
     size_t i;
-    judge(EXERCISE, sizeof EXERCISE, ANSWER, sizeof ANSWER, 8192);
+    memcpy(exercise, EXERCISE, sizeof EXERCISE);
+    exercise[17] = signal;
+    judge(exercise, sizeof exercise, ANSWER, sizeof ANSWER, 8192);
     expect(numbers[NURIMKKOT_NUMBER] == (clk == 255 ? 65 : 0), what, (long)numbers[NURIMKKOT_NUMBER]);
     expect(numbers[NURIMKKOT_LAB] == (clk == 255 ? 34 : NURIMKKOT_NONE), what, (long)numbers[NURIMKKOT_LAB]);
     expect(numbers[NURIMKKOT_APPRENTICE] == 7, what, (long)numbers[NURIMKKOT_APPRENTICE]);
@@ -114,6 +118,12 @@ static void on_board(const char *what, uint8_t clk, uint8_t aclr, uint32_t searc
         expect(route[i] == (i == 8 * 34 ? clk : i == 8 * 34 + 4 ? aclr : 255), what, (long)i);
     for (i = 0; i < NURIMKKOT_TRIES; i++)
         expect(tries[i] == (i == 34 ? searched : 0), what, (long)i);
+}
+
+/* The worked listing as it is: clk and aclr have a net each. */
+static void on_board(const char *what, uint8_t clk, uint8_t aclr, uint32_t searched)
+{
+    with_aclr(what, EXERCISE[17], clk, aclr, searched);
 }
 
 /* Each bit of a settings sheet the other way. One that is still a settings sheet is a board. */
@@ -155,7 +165,9 @@ static void boards(void)
     judge_by("LXT\x01\x00\x06\x00\x05\x03\x12\x0c\x18", 12);
     on_board("entry 0 serves nothing", 1, 4, 2);
     judge_by("LXT\x01\x00\x01\x1f", 7);
-    on_board("one entry for two needs", 255, 255, 1);
+    on_board("one entry for needs of two nets", 255, 255, 1);
+    with_aclr("one entry for clk and aclr of one net", 6, 0, 0, 2);
+    with_aclr("one entry for a net and its inverse", 7, 0, 0, 2);
     for (i = 0; i < sizeof board_numbers / sizeof board_numbers[0]; i++) {
         same[6] = (uint8_t)(board_numbers[i] % 256);
         same[7] = (uint8_t)(board_numbers[i] / 256);
@@ -164,6 +176,7 @@ static void boards(void)
     }
     judge_by(HOUSE, sizeof HOUSE);
     on_board("document 01's board", 0, 1, 2);
+    with_aclr("document 01's board, clk and aclr of one net", 6, 0, 1, 2);
 }
 
 int main(void)

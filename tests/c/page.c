@@ -70,7 +70,7 @@ static void most(void)
                     numbers);
     expect(most_tried(tries) == 34 && tries[34] == 2, "tries of the worked listing", (long)tries[34]);
     for (i = 0; i < NURIMKKOT_TRIES; i++)
-        tries[i] = i == 3 ? 109599 : i == 700 || i == 1023 ? 109600 : 1;
+        tries[i] = i == 3 ? 19173959 : i == 700 || i == 1023 ? 19173960 : 1;
     expect(most_tried(tries) == 700, "the same number twice", (long)most_tried(tries));
     tries[700] = 0;
     expect(most_tried(tries) == 1023, "the last LAB", (long)most_tried(tries));

@@ -1,8 +1,8 @@
 /* Measures the stack that a call of each function uses and fails where that is not less than the header says. A call runs in a thread
  * whose stack is painted first; the paint that is gone tells what the call used. The sheets have 512 cells, the class 32 answers, the log
- * 1,024 entries, the LABs and the list 32 cells and eight needs, the most there are, on eight entries, as many as a board may have, so that
- * the search goes as deep as it can; where no way is found it makes 69,280 tries. Built without sanitizers, whose frames would be measured
- * too. */
+ * 1,024 entries, the LABs and the list 32 cells and eight needs, the most there are, of eight nets, on eight entries, as many as a board may
+ * have, so that the search goes as deep as it can; where no way is found it makes 69,280 tries. Built without sanitizers, whose frames would be
+ * measured too. */
 #define _XOPEN_SOURCE 600
 #include "logs.h"
 

@@ -22,10 +22,11 @@ use class::{Row, MOST};
 use generate::*;
 use lent::Lent;
 use minutes::{Credit, Entry, APPRENTICES, ENTRIES, WEEK};
-use plain::{CellRecord, Settings, Step};
+use plain::{CellRecord, Need, Settings, Step};
 use settings::HOUSE;
 use std::hint::black_box;
 use std::time::{Duration, Instant};
+use try_forms::{Needs, NOT_HELD};
 
 const SIZES: [usize; 4] = [8, 32, 128, 512];
 // As many different sheets in turn: no branch predictor learns them.
@@ -195,7 +196,7 @@ fn median(mut v: Vec<f64>) -> f64 {
 /// sheets of the legal kind.
 fn forms(rng: &mut Rng) {
     println!();
-    println!("list check, readers and writers, median of {RUNS} runs over {VARIANTS} inputs");
+    println!("list check, readers and writers, median of up to {RUNS} runs over {VARIANTS} inputs");
     println!(
         "{:<31}{:>6}{:>13}{:>13}{:>8}",
         "call", "cells", "proved us", "plain us", "ratio"
@@ -360,11 +361,13 @@ fn bounds(rng: &mut Rng, growth: &[(Outcome, &str, Vec<(f64, f64)>)]) {
 
 /// Microseconds per input, both on the same inputs, in turn.
 fn both<T>(inputs: &[T], mut proved: impl FnMut(&T), mut plain: impl FnMut(&T)) -> (f64, f64) {
-    let n = rounds(inputs, &mut proved);
+    let [n, m] = [rounds(inputs, &mut proved), rounds(inputs, &mut plain)];
     let (mut left, mut right) = (Vec::new(), Vec::new());
-    for _ in 0..RUNS {
+    // Fewer runs where a single round already fills the time.
+    let runs = if n == 1 || m == 1 { RUNS / 3 } else { RUNS };
+    for _ in 0..runs {
         left.push(run(inputs, n, &mut proved));
-        right.push(run(inputs, n, &mut plain));
+        right.push(run(inputs, m, &mut plain));
     }
     (median(left) / 1000.0, median(right) / 1000.0)
 }
@@ -422,20 +425,75 @@ fn judged(
     );
 }
 
-/// 10,245 partial ways stand at or before the earliest way for eight needs, the most
-/// that a search over boards of eight entries found.
+/// 10,245 partial ways stand at or before the earliest way for eight needs of different
+/// nets, the most that a search over boards of eight entries found.
 const LATE_WAY: [u8; 8] = [31, 15, 7, 7, 7, 7, 7, 7];
 const LATE_ROUTE: [u8; 8] = [2, 3, 4, 5, 6, 7, 1, 0];
-/// Nothing serves sload, the last need: seven needs have 69,280 partial ways, the
-/// most that there can be without a way.
+/// 342,399 stand there for seven needs of one net before sload of another.
+const LATE_SHARED: [u8; 8] = [31, 15, 15, 15, 15, 15, 15, 15];
+const LATE_SHARED_ROUTE: [u8; 8] = [1, 1, 1, 1, 1, 1, 1, 0];
+/// Nothing serves sload, the last need: seven needs have 69,280 partial ways where their
+/// nets differ, and 2,396,744 where they have one net, the most that there can be without
+/// a way.
 const NO_WAY: [u8; 8] = [15; 8];
 
-/// Two registers of one LAB with eight needs, on boards of eight entries that make
-/// the search for a way long.
+/// The boards with the longest searches that climbing over boards and nets found for
+/// TURNS and LONG_NEEDS: no two entries serve the same of what is left.
+const LONG: [u8; 8] = [5, 7, 3, 15, 13, 7, 15, 11];
+const LONG_LATE: [u8; 8] = [31, 6, 15, 11, 14, 7, 13, 3];
+
+/// Eight needs by the letters of their signals, at their route bytes: of different nets;
+/// of one; of one up to aclr, then of another; the last of another; of two that take turns.
+const EIGHT_NEEDS: &str = "ABCDEFGH";
+const ONE_NET: &str = "AaAaAaAA";
+const TWO_NETS: &str = "AaAaAaBB";
+const LAST_OTHER: &str = "AaAaAaAB";
+const TURNS: &str = "ABABABAB";
+const LONG_NEEDS: &str = "AaADADCB";
+
+/// Needs that take over 1,000 tries each on the board of LATE_WAY.
+const LATE_NEEDS: [&str; 8] = [
+    EIGHT_NEEDS,
+    "ABCDEF-H",
+    "ABCDE-GH",
+    "ABC-EFGH",
+    "A-CDEFGH",
+    "ABCDE--H",
+    "ABC-EF-H",
+    "A-CDEF-H",
+];
+
+/// Needs with shared nets that take over 40,000 each on the board of LATE_SHARED.
+const LATE_SHARED_NEEDS: [&str; 8] = [
+    LAST_OTHER, "AaAaAa-B", "AaAaA-AB", "AaA-AaAB", "A-AaAaAB", "AaAaAaBC", "AaAaABAC", "AaABAaAC",
+];
+
+/// LABs of two registers, on boards of eight entries that make the search for a way long.
 fn search(rng: &mut Rng) {
-    for (name, entries, way) in [
-        ("search, late way", LATE_WAY, Some(LATE_ROUTE)),
-        ("search, no way", NO_WAY, None),
+    let late = LATE_SHARED_NEEDS.repeat(2);
+    for (name, entries, list, way) in [
+        (
+            "search, late way",
+            LATE_WAY,
+            &[EIGHT_NEEDS][..],
+            Some(LATE_ROUTE),
+        ),
+        ("search, no way", NO_WAY, &[EIGHT_NEEDS], None),
+        ("one net, no way", NO_WAY, &[ONE_NET], None),
+        ("two nets, no way", NO_WAY, &[TWO_NETS], None),
+        ("longest, no way", LONG, &[TURNS], None),
+        (
+            "two nets, late way",
+            LATE_SHARED,
+            &[LAST_OTHER],
+            Some(LATE_SHARED_ROUTE),
+        ),
+        (
+            "shared, late ways",
+            LATE_SHARED,
+            &late,
+            Some(LATE_SHARED_ROUTE),
+        ),
     ] {
         let settings = settings::sheet(&Settings {
             version: 1,
@@ -443,61 +501,53 @@ fn search(rng: &mut Rng) {
             entries: entries.to_vec(),
         });
         let mut inputs = Vec::new();
-        let mut lent = Lent::new();
+        let mut lent = [Lent::new(), Lent::new()];
         for _ in 0..VARIANTS {
-            let s = with_needs(rng, &[EIGHT_NEEDS]);
+            let s = with_needs(rng, list);
             let lab = s.cells[0].lab();
             let (e, a) = (s.exercise(), s.answer());
-            let v = proved::numbers(&judge::judge(&settings, &e, &a, lent.parts()));
-            let bytes = &lent.route()[8 * lab..8 * lab + 8];
+            let [left, right] = &mut lent;
+            let v = proved::numbers(&judge::judge(&settings, &e, &a, left.parts()));
+            let bytes = &left.route()[8 * lab..8 * lab + 8];
             match way {
                 Some(wanted) => assert_eq!((v[0], bytes), (0, &wanted[..])),
                 None => assert_eq!((v[0], v[2]), (65, lab as u64)),
             }
-            assert_eq!(proved::judge(&settings, &e, &a, lent.parts()), v);
+            assert_eq!(proved::judge(&settings, &e, &a, right.parts()), v);
+            assert!(left == right);
             inputs.push((e, a));
         }
         let number = if way.is_some() { 0 } else { 65 };
-        judged(name, number, "one LAB", [2, 1], judges(&settings, &inputs));
+        let each = judges(&settings, &inputs);
+        let labs = list.len();
+        let spread = if labs == 1 { "one LAB" } else { "few LABs" };
+        judged(name, number, spread, [2 * labs, labs], each);
     }
 }
 
-/// Two clk, two ena, two aclr, sclr and sload.
-const EIGHT_NEEDS: [usize; 5] = [2, 2, 2, 1, 1];
-
-/// Needs that take over 1,000 tries each on the board of LATE_WAY.
-const LATE_NEEDS: [[usize; 5]; 8] = [
-    EIGHT_NEEDS,
-    [2, 2, 2, 0, 1],
-    [2, 2, 1, 1, 1],
-    [2, 1, 2, 1, 1],
-    [1, 2, 2, 1, 1],
-    [2, 2, 1, 0, 1],
-    [2, 1, 2, 0, 1],
-    [1, 2, 2, 0, 1],
-];
-
-/// A LAB of two registers for each of these numbers of needs, by role.
-fn with_needs(rng: &mut Rng, list: &[[usize; 5]]) -> Sheets {
-    let mut nets: Vec<u16> = (0..9 + 2 * list.len() as u16).map(net).collect();
-    rng.shuffle(&mut nets);
+/// A LAB of two registers for the letters of each list of needs, with nets of its own.
+fn with_needs(rng: &mut Rng, list: &[&str]) -> Sheets {
+    let mut firsts: Vec<u16> = (0..list.len() as u16).map(|k| 1 + 10 * k).collect();
+    rng.shuffle(&mut firsts);
     let mut labs: Vec<usize> = (0..1024).collect();
     rng.shuffle(&mut labs);
     let mut cells = Vec::new();
-    for (k, counts) in list.iter().enumerate() {
+    for (k, letters) in list.iter().enumerate() {
+        let signals: Vec<u16> = letters.bytes().map(|b| signal(b, firsts[k])).collect();
         for j in 0..2 {
             let mut c = Cell::new(REGISTER, labs[k], j);
-            // The second signal where there are two.
-            for (role, &n) in counts.iter().enumerate().filter(|(_, &n)| n > 0) {
-                let first = [0, 2, 4, 6, 7][role];
-                c.s[CLK + role] = nets[first + j * (n - 1)];
+            for (&role, &v) in ROLES.iter().zip(&signals) {
+                // The second signal where there are two.
+                if v != 0 && (j == 1 || c.s[CLK + role] == 0) {
+                    c.s[CLK + role] = v;
+                }
             }
-            (c.s[SDATA], c.s[REGOUT]) = (nets[8], nets[9 + 2 * k + j]);
+            (c.s[SDATA], c.s[REGOUT]) = (net(0), net(firsts[k] + 8 + j as u16));
             cells.push(c);
         }
     }
     Sheets {
-        nets: nets.len() as u16,
+        nets: 1 + 10 * list.len() as u16,
         cells,
         apprentice: 1 + rng.below(1000) as u32,
     }
@@ -509,7 +559,9 @@ const SEARCHES: usize = 8;
 /// Judgements that take many tries beside a plain search of the same needs.
 fn searches(rng: &mut Rng) {
     println!();
-    println!("tries: judgements beside a plain search of the same needs, median of {RUNS} runs");
+    println!(
+        "tries: judgements beside a plain search of the same needs, median of up to {RUNS} runs"
+    );
     println!(
         "{:<21}{:>4}{:>6}{:>9}{:>13}{:>13}{:>12}{:>9}{:>8}",
         "outcome",
@@ -523,22 +575,30 @@ fn searches(rng: &mut Rng) {
         "ratio"
     );
     let late = LATE_NEEDS.repeat(2);
+    let late_shared = LATE_SHARED_NEEDS.repeat(2);
     for (name, number, entries, list) in [
         ("most tries, refused", 65, NO_WAY, &[EIGHT_NEEDS][..]),
         ("late answer, legal", 0, LATE_WAY, &[EIGHT_NEEDS]),
         ("late answers, legal", 0, LATE_WAY, &late),
+        ("one net, refused", 65, NO_WAY, &[ONE_NET]),
+        ("two nets, refused", 65, NO_WAY, &[TWO_NETS]),
+        ("two nets, legal", 0, LATE_SHARED, &[LAST_OTHER]),
+        ("shared nets, legal", 0, LATE_SHARED, &late_shared),
+        ("longest, refused", 65, LONG, &[TURNS]),
+        ("longest, legal", 0, LONG_LATE, &[LONG_NEEDS]),
     ] {
         let settings = settings::sheet(&Settings {
             version: 1,
             board: 0,
             entries: entries.to_vec(),
         });
-        let needs = |counts: &[usize; 5]| {
-            let roles = (0..5).flat_map(|role| std::iter::repeat_n(role, counts[role]));
-            try_forms::serving(roles, &entries)
+        let needs = |letters: &&str| {
+            let signals = letters.bytes().map(|b| signal(b, 0));
+            let needs: Needs = ROLES.into_iter().zip(signals).collect();
+            try_forms::on_board(needs.iter().filter(|need| need.1 != 0), &entries)
         };
-        let needs: Vec<Vec<u8>> = list.iter().map(needs).collect();
-        let tries: u32 = needs.iter().map(|n| try_forms::searched(n, 8).0).sum();
+        let needs: Vec<Vec<Need>> = list.iter().map(needs).collect();
+        let tries: u32 = needs.iter().map(|n| try_forms::searched(n).0).sum();
         let mut lent = Lent::new();
         let mut inputs = Vec::new();
         for _ in 0..SEARCHES {
@@ -555,8 +615,8 @@ fn searches(rng: &mut Rng) {
             },
             |(_, _, list)| {
                 for needs in list {
-                    let (mut way, mut tries) = ([0; 8], 0);
-                    black_box(try_forms::search(needs, 8, 0, &mut way, &mut tries));
+                    let (mut held, mut way, mut tries) = (NOT_HELD, [0; 8], 0);
+                    black_box(try_forms::search(needs, &mut held, &mut way, &mut tries));
                     black_box((way, tries));
                 }
             },

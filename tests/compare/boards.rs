@@ -1,9 +1,9 @@
-//! Settled examples of M-102: boards other than document 01's, and settings sheets
-//! that are none.
+//! Settled examples of M-102 and M-107: boards other than document 01's, needs that share
+//! a net, and settings sheets that are none.
 
 use crate::generate::*;
 use crate::plain::Settings;
-use crate::settings;
+use crate::settings::{self, HOUSE_ENTRIES};
 use crate::{registers, Example, Expect, NO};
 
 /// Document 01's entries in falling order.
@@ -26,7 +26,7 @@ const WAYS: [(&str, &[u8], &str); 20] = [
     // Entries that serve nothing are passed over.
     ("10000", &[0, 0, 0, 0, 0, 0, 0, 1], "7-------"),
     ("10100", &[0, 4, 0, 1], "3---1---"),
-    // An entry is for one need.
+    // An entry is for one net.
     ("10100", &[31], ""),
     ("10100", &[31, 31], "0---1---"),
     ("20000", &[1, 30], ""),
@@ -38,6 +38,52 @@ const WAYS: [(&str, &[u8], &str); 20] = [
     ("22211", &[31; 7], ""),
     ("22211", &[15; 8], ""),
     ("22211", &[31, 1, 3, 7, 15, 15, 16, 0], ""),
+];
+
+/// The same for needs that share a net: for each route byte a letter, a net or, small, its
+/// inverse.
+const SHARED: [(&str, &[u8], &str); 32] = [
+    // A net and its inverse come in once.
+    ("Aa------", &HOUSE_ENTRIES, "00------"),
+    ("--Aa----", &HOUSE_ENTRIES, "--22----"),
+    ("----Aa--", &HOUSE_ENTRIES, "----11--"),
+    // One net in two roles: the earliest way need not share.
+    ("A---A---", &HOUSE_ENTRIES, "0---1---"),
+    ("A---a---", &HOUSE_ENTRIES, "0---1---"),
+    ("A-A-----", &HOUSE_ENTRIES, "0-2-----"),
+    ("------AA", &HOUSE_ENTRIES, "------43"),
+    ("--A----A", &HOUSE_ENTRIES, "--2----3"),
+    ("A---A---", &[5, 1], "0---0---"),
+    ("A---A---", &[1, 5], "0---1---"),
+    ("A---A---", &[5], "0---0---"),
+    ("A---a---", &[5], "0---0---"),
+    // Different nets may not.
+    ("A---B---", &[5], ""),
+    ("AB------", &[5], ""),
+    ("AB--A---", &[5], ""),
+    ("AB--A---", &[5, 1], "01--0---"),
+    ("AB--B---", &[5, 1], "10--0---"),
+    // P11 with one net less: the second clk, ena or aclr is the inverse.
+    ("AaBCDE--", &HOUSE_ENTRIES, "002314--"),
+    ("ABCcDE--", &HOUSE_ENTRIES, "023314--"),
+    ("ABCDEe--", &HOUSE_ENTRIES, "012344--"),
+    // And with a clk that is an aclr too, which comes in at 1 for both.
+    ("ABCDAE--", &HOUSE_ENTRIES, "102314--"),
+    ("ABCDBE--", &HOUSE_ENTRIES, "012314--"),
+    // With a clk that is an ena, as one entry serves both, and with an ena that is an aclr,
+    // as none does.
+    ("ABACDE--", &HOUSE_ENTRIES, "202314--"),
+    ("ABCDCE--", &HOUSE_ENTRIES, ""),
+    // Three needs or more at one entry.
+    ("Aa--A---", &[5], "00--0---"),
+    ("AaAaAaAA", &[31], "00000000"),
+    ("AaAaAaAA", &[1, 2, 4, 8, 16], "00112234"),
+    ("AaAaAaAA", &[15; 8], ""),
+    // Two nets, four needs each.
+    ("ABABABAB", &[31, 31], "01010101"),
+    ("ABABABAB", &[31], ""),
+    ("aBaBaBaB", &[31, 31], "01010101"),
+    ("AaAaAaAB", &[31, 15, 15, 15, 15, 15, 15, 15], "11111110"),
 ];
 
 /// Settings sheets with their numbers.
@@ -83,23 +129,33 @@ pub fn board(number: u16, entries: &[u8]) -> Vec<u8> {
     })
 }
 
-/// One or two registers in one LAB with so many distinct signals of each role; a
-/// clock that needs no entry is VCC.
+/// One or two registers in one LAB with so many signals of each role, all of different
+/// nets.
 pub fn needs(lab: usize, counts: &str) -> Sheets {
-    let count = |role: usize| counts.as_bytes()[role] - b'0';
-    let register = |j: u8| {
-        let n = j as u16;
-        let or = |role: usize, v: u16, other: u16| if count(role) > j { v } else { other };
-        [
-            (CLK, or(0, net(n), VCC)),
-            (ENA, or(1, net(2 + n), 0)),
-            (ACLR, or(2, net(4 + n), 0)),
-            (SCLR, or(3, net(6), 0)),
-            (SLOAD, or(4, net(7), 0)),
-            (SDATA, or(4, net(8), 0)),
-        ]
+    let letter = |k: usize| {
+        let role = ROLES[k];
+        let before = ROLES[..k].iter().filter(|&&r| r == role).count();
+        if counts.as_bytes()[role] - b'0' > before as u8 {
+            (b'A' + k as u8) as char
+        } else {
+            '-'
+        }
     };
-    let two = (0..5).any(|role| count(role) == 2);
+    signals(lab, &(0..8).map(letter).collect::<String>())
+}
+
+/// One or two registers in one LAB with the signals of these letters; a clock that needs
+/// no entry is VCC.
+pub fn signals(lab: usize, letters: &str) -> Sheets {
+    let at = |k: usize| signal(letters.as_bytes()[k], 0);
+    let or = |v: u16, other: u16| if v == 0 { other } else { v };
+    let sdata = if at(7) == 0 { 0 } else { net(8) };
+    let first = [(SCLR, at(6)), (SLOAD, at(7)), (SDATA, sdata)];
+    let register = |j: usize| {
+        let own = [(CLK, or(at(j), VCC)), (ENA, at(2 + j)), (ACLR, at(4 + j))];
+        [&own[..], if j == 0 { &first } else { &[] }].concat()
+    };
+    let two = [1, 3, 5].iter().any(|&k| at(k) != 0);
     let both = [register(0), register(1)];
     let lists: Vec<&[(usize, u16)]> = both[..1 + two as usize].iter().map(|r| &r[..]).collect();
     registers(9, lab, &lists)
@@ -125,23 +181,24 @@ pub fn examples() -> Vec<Example> {
             expect,
         })
     };
-    for (k, (counts, entries, bytes)) in WAYS.into_iter().enumerate() {
+    for (k, (text, entries, bytes)) in WAYS.into_iter().chain(SHARED).enumerate() {
         let lab = 300 + k;
+        let make = if k < WAYS.len() { needs } else { signals };
         let expect = match bytes {
             "" => Expect::Refused(65, NO, lab as u64, [1, 11, 4]),
             _ => Expect::Legal(vec![(lab, route(bytes))]),
         };
         add(
-            format!("needs {counts} of entries {entries:?}"),
+            format!("needs {text} of entries {entries:?}"),
             board(7 + k as u16, entries),
-            needs(lab, counts),
+            make(lab, text),
             expect,
         );
     }
     for number in [0, 1, 0x1f1f, 0x2020, 65535] {
         add(
             format!("document 01's entries as board {number}"),
-            board(number, &settings::HOUSE_ENTRIES),
+            board(number, &HOUSE_ENTRIES),
             needs(1, "21111"),
             Expect::Legal(vec![(1, route("012-4-53"))]),
         );

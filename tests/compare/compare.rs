@@ -563,6 +563,7 @@ fn report_forms(seen: &forms::Counts) -> bool {
         seen.judged
     );
     missing |= rising("LABs of legal answers, by needs", &seen.needs);
+    missing |= rising("by the most needs at one entry", &seen.shared);
     missing |= rising("their needs, by entry", &seen.entries);
     missing |= report_sync("judge", &seen.lab_sync);
     missing |= report_sync("list check", &seen.list_sync);
@@ -765,10 +766,11 @@ fn report_tries(seen: &try_cases::Counts) -> bool {
     println!(
         "  least for a number of entries and of needs: {way} tables with a way, {no_way} without"
     );
+    println!("  tables by all partial ways: {}", seen.listed);
     println!("  tables by all lists of entries: {}", seen.defined);
     let [way, no_way, table] = seen.most;
     println!("  most tries: {way} with a way, {no_way} without, {table} of a table");
-    missing |= seen.rarest_tables().contains(&0) || seen.defined == 0;
+    missing |= seen.rarest_tables().contains(&0) || seen.listed == 0 || seen.defined == 0;
     report_other_lengths(seen) || missing
 }
 

@@ -26,8 +26,10 @@ pub struct Counts {
     pub lists: [u64; 256],
     /// Lists of a LAB of which the Rust judge says the same.
     pub judged: u64,
-    /// LABs of legal answers by their needs, and their needs by entry.
+    /// LABs of legal answers by their needs, by the most needs at one entry, and their
+    /// needs by entry.
     pub needs: [u64; 9],
+    pub shared: [u64; 9],
     pub entries: [u64; settings::MOST],
     /// Rule 63 in all lists, and in the LABs of which the Rust judge says the same.
     pub list_sync: sync::Counts,
@@ -49,6 +51,7 @@ impl Counts {
             lists: [0; 256],
             judged: 0,
             needs: [0; 9],
+            shared: [0; 9],
             entries: [0; settings::MOST],
             list_sync: sync::Counts::new(),
             lab_sync: sync::Counts::new(),
@@ -59,7 +62,9 @@ impl Counts {
 
     fn routed(&mut self, bytes: &[u8; 8]) {
         let given = || bytes.iter().filter(|&&b| b != 255);
+        let with = |b: u8| given().filter(|&&other| other == b).count();
         self.needs[given().count()] += 1;
+        self.shared[given().map(|&b| with(b)).max().unwrap_or(0)] += 1;
         given().for_each(|&b| self.entries[b as usize] += 1);
     }
 }

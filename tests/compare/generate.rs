@@ -2,7 +2,9 @@
 //! number, noise.
 #![allow(dead_code)]
 
+use crate::plain::Need;
 use crate::settings;
+use std::collections::BTreeSet;
 
 /// Every verdict number of the judge of two sheets.
 pub const NUMBERS: [u8; 42] = [
@@ -38,6 +40,19 @@ pub const VCC: u16 = 2;
 pub fn net(n: u16) -> u16 {
     4 + 2 * n
 }
+
+/// The signal of a letter: A, B and so on are the nets from `first` on, small letters their
+/// inverses. Any other sign is for unconnected.
+pub fn signal(letter: u8, first: u16) -> u16 {
+    match letter {
+        b'A'..=b'Z' => net(first + (letter - b'A') as u16),
+        b'a'..=b'z' => net(first + (letter - b'a') as u16) + 1,
+        _ => 0,
+    }
+}
+
+/// The role of each route byte: clk, ena, aclr, sclr and sload from 0 on.
+pub const ROLES: [usize; 8] = [0, 0, 1, 1, 2, 2, 3, 4];
 
 /// Xorshift, with the seed stirred first so that any seed will do.
 pub struct Rng(u64);
@@ -240,18 +255,16 @@ impl Control {
         self.pairs.len().max(self.aclr.len()).max(self.sync.len())
     }
 
-    /// How many needs each role has.
-    fn needs(&self) -> [usize; 5] {
-        let clk = self.pairs.iter().map(|p| p.0).collect();
-        let ena = self.pairs.iter().map(|p| p.1).collect();
-        let sclr = self.sync.iter().map(|p| p.1).collect();
-        let sload = self.sync.iter().map(|p| p.0).collect();
-        [clk, ena, self.aclr.clone(), sclr, sload].map(|mut list: Vec<u16>| {
-            list.retain(|&v| v >= net(0));
-            list.sort_unstable();
-            list.dedup();
-            list.len()
-        })
+    /// Whether its needs have a way on the board.
+    fn has_way(&self, board: &[u8]) -> bool {
+        let clk = self.pairs.iter().map(|p| (0, p.0));
+        let ena = self.pairs.iter().map(|p| (1, p.1));
+        let aclr = self.aclr.iter().map(|&v| (2, v));
+        let sync = self.sync.iter().flat_map(|p| [(3, p.1), (4, p.0)]);
+        let all = clk.chain(ena).chain(aclr).chain(sync);
+        let needs: BTreeSet<(usize, u16)> = all.filter(|&(_, v)| v >= net(0)).collect();
+        let needs = needs.iter().map(|&(role, v)| Need::new(role, v, board));
+        settings::has_way(&needs.collect::<Vec<_>>())
     }
 }
 
@@ -281,6 +294,16 @@ pub fn distinct(
         }
     }
     list
+}
+
+/// The nets of a pool, or often only a few of them, at least so many.
+fn few(rng: &mut Rng, pool: &[u16], least: usize) -> Vec<u16> {
+    let mut nets = pool.to_vec();
+    if rng.percent(40) {
+        rng.shuffle(&mut nets);
+        nets.truncate(rng.pick(&[1, 1, 2, 3]).max(least));
+    }
+    nets
 }
 
 /// At most one (sload, sclr), each in use as often as `busy` says.
@@ -338,7 +361,10 @@ fn control(rng: &mut Rng, board: &[u8], pool: &[u16], want: u8) -> Control {
     } else {
         rng.range(1, 4)
     };
+    // Four signals where a rule before 64 is to be broken.
+    let least = 1 + (60..=63).contains(&want) as usize;
     loop {
+        let pool = &few(rng, pool, least)[..];
         let over = |rng: &mut Rng, rule: u8| {
             want == rule || (want != 0 && want < rule && want < 64 && rng.percent(15))
         };
@@ -372,8 +398,8 @@ fn control(rng: &mut Rng, board: &[u8], pool: &[u16], want: u8) -> Control {
         };
         let c = Control { pairs, aclr, sync };
         let fits = match want {
-            0 | 64 => settings::has_way(board, c.needs()),
-            65 => !settings::has_way(board, c.needs()),
+            0 | 64 => c.has_way(board),
+            65 => !c.has_way(board),
             _ => true,
         };
         draws -= 1;

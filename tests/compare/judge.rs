@@ -1,7 +1,8 @@
-//! The judge in plain Rust: linear passes, tables by net, a list of cells per LAB,
-//! all ways of the settings sheet's table in order, the tries counted by sets.
+//! The judge in plain Rust: linear passes, tables by net, a list of cells per LAB, and
+//! one search for all LABs whose needs are alike.
 
 use crate::lent::Parts;
+use crate::plain::Need;
 use crate::tries;
 
 #[derive(Clone, Copy, Debug, PartialEq, Eq)]
@@ -95,18 +96,62 @@ fn table_of(settings: &[u8]) -> Result<Table, u8> {
     Ok([0, 1, 2, 3, 4].map(|role| (gathered(role) >> 56) as u8))
 }
 
-// The earliest way depends only on how many needs each role has: 108 cases.
+/// The signals that need an entry, each at its route byte.
+type Needs = [u16; 8];
+const NO_NEED: u16 = u16::MAX;
+/// The role of each route byte.
+const ROLES: [usize; 8] = [0, 0, 1, 1, 2, 2, 3, 4];
+
+// Where all nets differ, the earliest way depends only on how many needs each role has:
+// 108 cases.
 const CASES: usize = 108;
 
 fn way_case(clk: usize, ena: usize, aclr: usize, sclr: usize, sload: usize) -> usize {
     (((clk * 3 + ena) * 3 + aclr) * 2 + sclr) * 2 + sload
 }
 
-/// The route bytes and the tries of each case, found when a LAB first asks for it.
+/// Needs of the case.
+fn needs_of(case: usize) -> Needs {
+    let counts = [
+        case / 36,
+        case / 12 % 3,
+        case / 4 % 3,
+        case / 2 % 2,
+        case % 2,
+    ];
+    let first = [0, 2, 4, 6, 7];
+    let mut needs = [NO_NEED; 8];
+    for role in 0..5 {
+        for k in first[role]..first[role] + counts[role] {
+            needs[k] = FIRST_NET + 2 * k as u16;
+        }
+    }
+    needs
+}
+
+/// Which needs there are, and which of them are of one net: for each the place of the
+/// first one, four bits a need.
+fn shared_nets(needs: &Needs) -> u32 {
+    needs.iter().fold(0, |key, &v| {
+        let first = needs.iter().position(|w| w / 2 == v / 2);
+        key << 4 | first.filter(|_| v != NO_NEED).unwrap_or(8) as u32
+    })
+}
+
+/// A case in which needs may be of one net.
+struct Shared {
+    nets: u32,
+    bytes: [u8; 8],
+    tries: u32,
+}
+
+/// The route bytes and the tries of each case, found when a LAB first asks for it. The
+/// cases with shared nets stand after the others.
 struct Ways {
     table: Table,
     bytes: [[u8; 8]; CASES],
     tries: [u32; CASES],
+    shared: Vec<Shared>,
 }
 
 // In the first byte.
@@ -119,67 +164,80 @@ impl Ways {
             table,
             bytes: [[NOT_ASKED; 8]; CASES],
             tries: [0; CASES],
+            shared: Vec::new(),
         }
     }
 
     /// Whether the case has a way; then its bytes are there. Its tries are, either way.
     #[inline(always)]
     fn exists(&mut self, case: usize) -> bool {
-        if self.bytes[case][0] == NOT_ASKED {
-            (self.bytes[case], self.tries[case]) = self.search(case);
+        if self.bytes(case)[0] == NOT_ASKED {
+            (self.bytes[case], self.tries[case]) = self.search(&needs_of(case));
         }
-        self.bytes[case][0] != NO_WAY
+        self.bytes(case)[0] != NO_WAY
     }
 
     #[inline(never)]
-    fn search(&self, case: usize) -> ([u8; 8], u32) {
-        let counts = [
-            case / 36,
-            case / 12 % 3,
-            case / 4 % 3,
-            case / 2 % 2,
-            case % 2,
-        ];
-        let first = [0, 2, 4, 6, 7];
-        // Needs in order: the entries that serve it, and its route byte.
-        let mut serving = [0; 8];
-        let mut places = [0; 8];
-        let mut n = 0;
-        for role in 0..5 {
-            for k in 0..counts[role] {
-                serving[n] = self.table[role];
-                places[n] = first[role] + k;
-                n += 1;
-            }
+    fn shared_case(&mut self, needs: &Needs) -> usize {
+        let nets = shared_nets(needs);
+        let known = self.shared.iter().position(|s| s.nets == nets);
+        let place = known.unwrap_or_else(|| {
+            let (bytes, tries) = self.search(needs);
+            self.shared.push(Shared { nets, bytes, tries });
+            self.shared.len() - 1
+        });
+        CASES + place
+    }
+
+    #[inline(always)]
+    fn bytes(&self, case: usize) -> &[u8; 8] {
+        match case.checked_sub(CASES) {
+            Some(place) => &self.shared[place].bytes,
+            None => &self.bytes[case],
         }
-        let mut way = [0; 8];
+    }
+
+    #[inline(always)]
+    fn tries(&self, case: usize) -> u32 {
+        match case.checked_sub(CASES) {
+            Some(place) => self.shared[place].tries,
+            None => self.tries[case],
+        }
+    }
+
+    #[inline(never)]
+    fn search(&self, needs: &Needs) -> ([u8; 8], u32) {
+        let mut list = [Need { serving: 0, net: 0 }; 8];
+        let places = (0..8).filter(|&k| needs[k] != NO_NEED);
+        for (need, k) in list.iter_mut().zip(places.clone()) {
+            (need.serving, need.net) = (self.table[ROLES[k]], needs[k] / 2);
+        }
+        let (tries, way) = tries::search(&list[..places.clone().count()]);
         let mut bytes = [255; 8];
-        if !earliest_way(&serving[..n], 0, &mut way[..n]) {
-            bytes[0] = NO_WAY;
-            return (bytes, tries::all(&serving[..n]));
+        match way {
+            Some(way) => places.zip(way).for_each(|(k, entry)| bytes[k] = entry),
+            None => bytes[0] = NO_WAY,
         }
-        for k in 0..n {
-            bytes[places[k]] = way[k];
-        }
-        (bytes, tries::up_to(&serving[..n], &way[..n]))
+        (bytes, tries)
     }
 }
 
-/// Tries every free entry for the first need, the lowest first.
-fn earliest_way(serving: &[u8], taken: u8, way: &mut [u8]) -> bool {
-    let Some((&all, others)) = serving.split_first() else {
-        return true;
-    };
-    let mut left = all & !taken;
-    while left != 0 {
-        let entry = left.trailing_zeros() as u8;
-        if earliest_way(others, taken | 1 << entry, &mut way[1..]) {
-            way[0] = entry;
-            return true;
-        }
-        left &= left - 1;
+/// The nets of a LAB's needs by their last bits, and those bits that came again.
+struct Seen {
+    nets: u64,
+    again: u64,
+}
+
+impl Seen {
+    /// Whether the value is a net, 1 or 0.
+    #[inline(always)]
+    fn add(&mut self, x: u32) -> usize {
+        let net = (x != u32::MAX) & (x >= FIRST_NET as u32);
+        let bit = (net as u64) << (x / 2 % 64);
+        self.again |= self.nets & bit;
+        self.nets |= bit;
+        net as usize
     }
-    false
 }
 
 /// Up to two distinct values; `n` goes beyond two when there are more.
@@ -209,9 +267,23 @@ impl Two {
 
     /// How many of the (at most two) values are nets.
     #[inline(always)]
-    fn nets(&self) -> usize {
-        let net = |x: u32| ((x != u32::MAX) & (x >= FIRST_NET as u32)) as usize;
-        net(self.v[0]) + net(self.v[1])
+    fn nets(&self, seen: &mut Seen) -> usize {
+        seen.add(self.v[0]) + seen.add(self.v[1])
+    }
+
+    /// These, the smaller code first.
+    fn needs(&self) -> [u16; 2] {
+        let [v, w] = self.v.map(|x| need(x as u16));
+        [v.min(w), v.max(w)]
+    }
+}
+
+/// Constants need no entry.
+fn need(v: u16) -> u16 {
+    if v < FIRST_NET {
+        NO_NEED
+    } else {
+        v
     }
 }
 
@@ -525,28 +597,26 @@ fn judge_cells(
 
     let mut stamp = [0u16; SLOTS];
     let mut ways = Ways::new(table);
-    let mut cases = [0u8; LABS];
+    let mut cases = [0u16; LABS];
     for lab in labs_of(&occupied) {
-        let number = match lab_rules(lab, marks[lab], heads[lab], &next, cells, &mut stamp) {
+        let heads = heads[lab];
+        let case = lab_rules(lab, marks[lab], heads, &next, cells, &mut stamp, &mut ways);
+        let number = match case {
             Ok(case) => {
-                cases[lab] = case;
-                if ways.exists(case as usize) {
+                cases[lab] = case as u16;
+                if ways.exists(case) {
                     continue;
                 }
                 // All partial ways of this LAB, and the tries of the lower ones.
                 tries.fill(0);
                 for l in labs_of(&occupied).take_while(|&l| l <= lab) {
-                    tries[l] = ways.tries[cases[l] as usize];
+                    tries[l] = ways.tries(cases[l] as usize);
                 }
                 65
             }
             Err(number) => number,
         };
-        let lowest = heads[lab]
-            .into_iter()
-            .filter(|&h| h != 0)
-            .min()
-            .unwrap_or(1);
+        let lowest = heads.into_iter().filter(|&h| h != 0).min().unwrap_or(1);
         let record = at_answer_record(number, apprentice, lowest as usize - 1);
         return Verdict {
             cell: NONE,
@@ -559,8 +629,8 @@ fn judge_cells(
     tries.fill(0);
     for lab in labs_of(&occupied) {
         let case = cases[lab] as usize;
-        route[8 * lab..8 * lab + 8].copy_from_slice(&ways.bytes[case]);
-        tries[lab] = ways.tries[case];
+        route[8 * lab..8 * lab + 8].copy_from_slice(ways.bytes(case));
+        tries[lab] = ways.tries(case);
     }
     at_answer_end(0, apprentice, answer)
 }
@@ -672,7 +742,8 @@ fn lab_rules(
     next: &[u16; MAX_CELLS],
     cells: &[Cell],
     stamp: &mut [u16; SLOTS],
-) -> Result<u8, u8> {
+    ways: &mut Ways,
+) -> Result<usize, u8> {
     let list = |head: u16| {
         let mut at = head;
         std::iter::from_fn(move || {
@@ -757,12 +828,18 @@ fn lab_rules(
         }
     }
 
+    let mut seen = Seen { nets: 0, again: 0 };
     let case = way_case(
-        clk.nets(),
-        ena.nets(),
-        aclr.nets(),
-        (sclr >= FIRST_NET) as usize,
-        (sload >= FIRST_NET) as usize,
+        clk.nets(&mut seen),
+        ena.nets(&mut seen),
+        aclr.nets(&mut seen),
+        seen.add(sclr as u32),
+        seen.add(sload as u32),
     );
-    Ok(case as u8)
+    if seen.again == 0 {
+        return Ok(case);
+    }
+    let [[c0, c1], [e0, e1], [a0, a1]] = [clk, ena, aclr].map(|set| set.needs());
+    let needs = [c0, c1, e0, e1, a0, a1, need(sclr), need(sload)];
+    Ok(ways.shared_case(&needs))
 }

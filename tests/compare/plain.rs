@@ -1,9 +1,9 @@
-//! The readers and the list check in plain Rust, straight from document 01 and
-//! M-102: sets, and each list of entries by itself.
+//! The readers and the list check in plain Rust, straight from document 01, M-102 and
+//! M-107: sets, and lists of entries that grow by one entry at a time.
 #![allow(dead_code)]
 
 use std::collections::BTreeSet;
-use std::sync::OnceLock;
+use std::ops::Deref;
 
 /// Kind, flag and eleven signals, laid out as in the exercise.
 #[repr(C)]
@@ -181,28 +181,64 @@ fn breaks_register_rule(c: &CellRecord) -> bool {
         || gnd_or_inverted(sdata)
 }
 
-/// All lists of so many different entries below `count`, in rising order.
-pub fn lists(count: usize, length: usize) -> &'static [Vec<u8>] {
-    static MADE: [[OnceLock<Vec<Vec<u8>>>; 9]; 9] = [const { [const { OnceLock::new() }; 9] }; 9];
-    MADE[count][length].get_or_init(|| {
-        let mut all = vec![vec![]];
-        for _ in 0..length {
-            let longer = |list: Vec<u8>| {
-                let others = (0..count as u8).filter(|e| !list.contains(e));
-                others.map(|e| [&list[..], &[e]].concat()).collect()
-            };
-            all = all.into_iter().flat_map::<Vec<_>, _>(longer).collect();
-        }
-        all
-    })
+/// A need: the entries that serve its role, a bit an entry, and its net.
+#[derive(Clone, Copy, Debug, PartialEq, Eq, Hash)]
+pub struct Need {
+    pub serving: u8,
+    pub net: u16,
 }
 
-/// The first list that gives each need an entry that serves its role.
-fn earliest(roles: &[usize], entries: &[u8]) -> Option<&'static [u8]> {
-    let serves = |(&entry, &role): (&u8, &usize)| entries[entry as usize] & (1 << role) != 0;
-    let is_way = |list: &&Vec<u8>| list.iter().zip(roles).all(serves);
-    let found = lists(entries.len(), roles.len()).iter().find(is_way);
-    found.map(|list| &list[..])
+impl Need {
+    /// Of a role and a signal, where the board has these entries.
+    pub fn new(role: usize, signal: u16, entries: &[u8]) -> Need {
+        let bit = |(entry, &flags): (usize, &u8)| (flags >> role & 1) << entry;
+        Need {
+            serving: entries.iter().enumerate().map(bit).sum(),
+            net: net_of(signal),
+        }
+    }
+}
+
+/// Entries for the first needs, in their order.
+#[derive(Clone, Copy, Default)]
+pub struct List {
+    entries: [u8; 8],
+    length: usize,
+}
+
+impl Deref for List {
+    type Target = [u8];
+
+    fn deref(&self) -> &[u8] {
+        &self.entries[..self.length]
+    }
+}
+
+impl List {
+    pub fn with(mut self, entry: u8) -> List {
+        self.entries[self.length] = entry;
+        self.length += 1;
+        self
+    }
+
+    /// With one more entry, each in turn that the next need may have: it serves the need,
+    /// and the list has given it to no need of another net.
+    pub fn longer(self, needs: &[Need]) -> impl Iterator<Item = List> {
+        let next = needs[self.length];
+        let given = needs.iter().zip(&*self);
+        let others = given.filter(|(need, _)| need.net != next.net);
+        let closed = others.fold(0, |set, (_, entry)| set | 1 << entry);
+        let may_have = move |entry: &u8| (next.serving & !closed) >> entry & 1 == 1;
+        (0..8).filter(may_have).map(move |entry| self.with(entry))
+    }
+}
+
+/// The first list for all needs that begins with this one.
+fn earliest(list: List, needs: &[Need]) -> Option<List> {
+    if list.len() == needs.len() {
+        return Some(list);
+    }
+    list.longer(needs).find_map(|list| earliest(list, needs))
 }
 
 /// What the register fixes of (sload, sclr), where it uses one of them (M-101).
@@ -287,21 +323,21 @@ pub fn check_list(settings: &[u8], list: &[CellRecord]) -> (u8, [u8; 8]) {
         return (64, none);
     }
     let first = [0, 2, 4, 6, 7];
-    let (mut roles, mut bytes) = (Vec::new(), Vec::new());
+    let (mut needs, mut bytes) = (Vec::new(), Vec::new());
     for (role, set) in [&*clks, &*enas, &*aclrs, &sclrs, &sloads]
         .into_iter()
         .enumerate()
     {
-        for (k, _) in set.iter().filter(|&&v| is_net(v)).enumerate() {
-            roles.push(role);
+        for (k, &v) in set.iter().filter(|&&v| is_net(v)).enumerate() {
+            needs.push(Need::new(role, v, &entries));
             bytes.push(first[role] + k);
         }
     }
-    let Some(way) = earliest(&roles, &entries) else {
+    let Some(way) = earliest(List::default(), &needs) else {
         return (65, none);
     };
     let mut route = none;
-    for (&b, &entry) in bytes.iter().zip(way) {
+    for (&b, &entry) in bytes.iter().zip(&*way) {
         route[b] = entry;
     }
     (0, route)

@@ -3,7 +3,8 @@
 #![allow(dead_code)]
 
 use crate::generate::Rng;
-use crate::plain::Settings;
+use crate::plain::{Need, Settings};
+use std::collections::BTreeSet;
 
 pub const MOST: usize = 8;
 
@@ -210,14 +211,24 @@ pub fn renumbered(rng: &mut Rng, s: &Settings) -> Settings {
     }
 }
 
-/// Whether each need can have an entry of its own: no choice of roles has more needs
-/// than entries that serve one of them.
-pub fn has_way(entries: &[u8], needs: [usize; 5]) -> bool {
-    (0..32).all(|choice: u8| {
-        let own = (0..5).filter(|role| choice >> role & 1 == 1);
-        let serving = entries.iter().filter(|&&flags| flags & choice != 0);
-        own.map(|role| needs[role]).sum::<usize>() <= serving.count()
-    })
+/// Whether the needs have a way: the entries go to nets, each to one, in any manner that
+/// leaves no need unserved by the entries of its net.
+pub fn has_way(needs: &[Need]) -> bool {
+    let nets: BTreeSet<u16> = needs.iter().map(|need| need.net).collect();
+    // The sets of needs that the entries so far can serve together, a bit a need.
+    let mut together = vec![false; 1 << needs.len()];
+    together[0] = true;
+    for entry in 0..MOST {
+        let before = together.clone();
+        for &net in &nets {
+            let served = |n: &Need| n.net == net && n.serving >> entry & 1 == 1;
+            let bit = |i: usize| (served(&needs[i]) as usize) << i;
+            let own: usize = (0..needs.len()).map(bit).sum();
+            let sets = (0..before.len()).filter(|&set| before[set]);
+            sets.for_each(|set| together[set | own] = true);
+        }
+    }
+    together.last() == Some(&true)
 }
 
 /// How often boards were judged on; by kind, version and number of entries.

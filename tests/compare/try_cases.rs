@@ -1,13 +1,18 @@
 //! What judgements show of the search, and how often the tries were compared.
 
-use crate::try_forms::Needs;
+use crate::generate::ROLES;
+use crate::plain::Need;
+use crate::settings::has_way;
 
 /// A LAB that was searched.
 pub struct Lab {
     pub number: usize,
-    pub needs: Needs,
+    /// Role and signal, in their order.
+    pub needs: Vec<(usize, u16)>,
+    /// The same on the board.
+    pub on_board: Vec<Need>,
     pub tries: u32,
-    pub found: bool,
+    pub way: Option<Vec<u8>>,
 }
 
 /// A judgement that came as far as the LABs.
@@ -22,9 +27,10 @@ pub struct Judged<'a> {
 }
 
 type Test = fn(&Judged) -> bool;
+type TestTwo = fn((usize, u16), (usize, u16)) -> bool;
 
 /// What a judgement shows that writes the list.
-pub const CASES: [(&str, Test); 23] = [
+pub const CASES: [(&str, Test); 39] = [
     ("legal with tries", |j| j.number == 0 && j.tries() > 0),
     ("legal, some LABs without needs", |j| {
         let without = j.searched.iter().any(|l| l.needs.is_empty());
@@ -39,7 +45,9 @@ pub const CASES: [(&str, Test); 23] = [
     }),
     ("after failed tries", |j| j.answer(Lab::failed)),
     ("after 256 or more", |j| j.answer(|l| l.tries > 255)),
-    ("after 10,245", |j| j.answer(|l| l.tries == 10_245)),
+    ("after 10,245 for different nets", |j| {
+        j.answer(|l| l.tries == 10_245 && l.nets_with_several() == 0)
+    }),
     ("failed tries in two LABs", |j| {
         let failed = j.searched.iter().filter(|l| l.failed());
         j.number == 0 && failed.count() > 1
@@ -74,18 +82,125 @@ pub const CASES: [(&str, Test); 23] = [
     }),
     ("65 with no try", |j| j.refused(|l| l.tries == 0)),
     ("65 with 256 or more", |j| j.refused(|l| l.tries > 255)),
-    ("65 with 69,280", |j| j.refused(|l| l.tries == 69_280)),
+    ("65 with 69,280 for different nets", |j| {
+        j.refused(|l| l.tries == 69_280 && l.nets_with_several() == 0)
+    }),
+    ("two needs share an entry", |j| {
+        j.answer(|l| l.share(|_, _| true))
+    }),
+    ("two roles do", |j| j.answer(|l| l.share(|p, q| p.0 != q.0))),
+    ("both polarities do", |j| {
+        j.answer(|l| l.share(|p, q| p.1 ^ 1 == q.1))
+    }),
+    ("three needs or more do", |j| j.answer(|l| l.sharing() > 2)),
+    ("all eight do", |j| j.answer(|l| l.sharing() == 8)),
+    ("needs of each of two nets do", |j| {
+        j.answer(|l| l.two_places(|a, b| l.shares(a) && l.shares(b) && !l.one_net(a, b)))
+    }),
+    ("legal only by sharing", |j| {
+        j.answer(|l| l.sharing() > 1 && !l.has_way_apart())
+    }),
+    ("shared, though another way is not", |j| {
+        j.answer(|l| l.sharing() > 1 && l.has_way_apart())
+    }),
+    ("not shared, though another way is", |j| {
+        j.answer(Lab::could_share)
+    }),
+    ("shared after failed tries", |j| {
+        j.answer(|l| l.sharing() > 1 && l.failed())
+    }),
+    ("after more than 69,280", |j| j.answer(|l| l.tries > 69_280)),
+    ("65, needs of one net", |j| {
+        j.refused(|l| l.nets_with_several() > 0)
+    }),
+    ("65, of two nets", |j| {
+        j.refused(|l| l.nets_with_several() > 1)
+    }),
+    ("65, different nets would have to share", |j| {
+        j.refused(|l| l.on_board.iter().all(|n| n.serving != 0))
+    }),
+    ("65 with more than 69,280", |j| {
+        j.refused(|l| l.tries > 69_280)
+    }),
+    ("65 with 2,396,744", |j| j.refused(|l| l.tries == 2_396_744)),
 ];
 
 impl Lab {
-    /// Whether some entry was given and taken back before the answer was found.
-    fn failed(&self) -> bool {
-        self.found && self.tries > self.needs.len() as u32
+    pub fn found(&self) -> bool {
+        self.way.is_some()
     }
 
-    fn two_needs(&self, test: fn((usize, u16), (usize, u16)) -> bool) -> bool {
-        let mut first = self.needs.iter();
-        first.any(|&p| self.needs.iter().any(|&q| test(p, q)))
+    /// What stands in the route buffer where the answer is legal.
+    pub fn bytes(&self) -> [u8; 8] {
+        let mut bytes = [255; 8];
+        let entries = self.way.iter().flatten();
+        for (&(role, _), &entry) in self.needs.iter().zip(entries) {
+            let mut free = (0..8).filter(|&k| ROLES[k] == role && bytes[k] == 255);
+            if let Some(k) = free.next() {
+                bytes[k] = entry;
+            }
+        }
+        bytes
+    }
+
+    /// Whether some entry was given and taken back before the answer was found.
+    fn failed(&self) -> bool {
+        self.found() && self.tries > self.needs.len() as u32
+    }
+
+    /// Whether two needs, by their places, pass the test.
+    fn two_places(&self, test: impl Fn(usize, usize) -> bool) -> bool {
+        let places = 0..self.needs.len();
+        let others = |i: usize| places.clone().filter(move |&j| j != i);
+        places.clone().any(|i| others(i).any(|j| test(i, j)))
+    }
+
+    fn two_needs(&self, test: TestTwo) -> bool {
+        self.two_places(|i, j| test(self.needs[i], self.needs[j]))
+    }
+
+    fn one_net(&self, i: usize, j: usize) -> bool {
+        self.on_board[i].net == self.on_board[j].net
+    }
+
+    fn one_entry(&self, i: usize, j: usize) -> bool {
+        self.way.as_ref().is_some_and(|way| way[i] == way[j])
+    }
+
+    /// Whether two needs that pass the test have one entry.
+    fn share(&self, test: TestTwo) -> bool {
+        self.two_places(|i, j| self.one_entry(i, j) && test(self.needs[i], self.needs[j]))
+    }
+
+    /// Whether the need has its entry with another one.
+    fn shares(&self, i: usize) -> bool {
+        (0..self.needs.len()).any(|j| j != i && self.one_entry(i, j))
+    }
+
+    /// The most needs that have one entry.
+    fn sharing(&self) -> usize {
+        let places = 0..self.needs.len();
+        let with = |i: usize| places.clone().filter(|&j| self.one_entry(i, j)).count();
+        places.clone().map(with).max().unwrap_or(0)
+    }
+
+    /// Whether a need could have the entry of another one of its net and has not.
+    fn could_share(&self) -> bool {
+        let serves = |i: usize, entry: u8| self.on_board[i].serving >> entry & 1 == 1;
+        let could = |i, j: usize| self.way.as_ref().is_some_and(|way| serves(i, way[j]));
+        self.two_places(|i, j| self.one_net(i, j) && !self.one_entry(i, j) && could(i, j))
+    }
+
+    /// Whether there is a way that gives no entry to two needs.
+    fn has_way_apart(&self) -> bool {
+        let apart = |(net, need): (u16, &Need)| Need { net, ..*need };
+        let needs: Vec<Need> = (0..).zip(&self.on_board).map(apart).collect();
+        has_way(&needs)
+    }
+
+    fn nets_with_several(&self) -> usize {
+        let needs = |net: u16| self.on_board.iter().filter(|n| n.net == net).count();
+        (0..8).filter(|&net| needs(net) > 1).count()
     }
 }
 
@@ -98,7 +213,7 @@ impl Judged<'_> {
     /// Below a LAB refused with 65.
     fn below(&self) -> u64 {
         match self.searched.last() {
-            Some(last) if !last.found => self.tries() - last.tries as u64,
+            Some(last) if !last.found() => self.tries() - last.tries as u64,
             _ => 0,
         }
     }
@@ -150,7 +265,8 @@ pub struct Counts {
     pub after_1: u64,
     /// Tables by entries and by needs: with a way, without one.
     pub tables: [[[u64; 9]; 9]; 2],
-    /// Those with all lists of entries looked at.
+    /// Those with all partial ways in a list, and with all lists of entries looked at.
+    pub listed: u64,
     pub defined: u64,
     /// The most tries of a LAB with an answer, without one; and of a table.
     pub most: [u32; 3],
@@ -170,6 +286,7 @@ impl Counts {
             before: [0; 256],
             after_1: 0,
             tables: [[[0; 9]; 9]; 2],
+            listed: 0,
             defined: 0,
             most: [0; 3],
         }
@@ -185,7 +302,7 @@ impl Counts {
             }
         }
         for lab in j.searched {
-            let (counts, most) = if lab.found {
+            let (counts, most) = if lab.found() {
                 (&mut self.found, &mut self.most[0])
             } else {
                 (&mut self.not_found, &mut self.most[1])
@@ -214,7 +331,7 @@ impl Counts {
                 .unwrap_or(0)
         };
         [
-            all(0, |entries, needs| needs <= entries),
+            all(0, |entries, needs| needs == 0 || entries > 0),
             all(1, |_, needs| needs > 0),
         ]
     }

@@ -1,7 +1,7 @@
-//! Settled examples of M-106: the tries of LABs, worked out by hand, and lists of other
-//! lengths.
+//! Settled examples of M-106 and M-107: the tries of LABs, worked out by hand, and lists
+//! of other lengths.
 
-use crate::boards::{board, needs};
+use crate::boards::{board, needs, signals};
 use crate::generate::*;
 use crate::judge::{ROUTE, TRIES};
 use crate::settings::HOUSE_ENTRIES;
@@ -80,7 +80,7 @@ const NO_WAY: [Line; 13] = [
     ("22211", &[], 0),
     ("10000", &[30; 8], 0),
     ("22211", &[30; 8], 0),
-    // An entry is for one need.
+    // An entry is for one net.
     ("10100", &[31], 1),
     ("20000", &[1, 30], 1),
     // The second need has none: each clk is a try.
@@ -97,6 +97,63 @@ const NO_WAY: [Line; 13] = [
     ),
     // Nothing serves the seventh: all partial ways of six.
     ("22211", &[23; 8], 8 + 56 + 336 + 1680 + 6720 + 20_160),
+];
+
+/// The signals by letters, the entries, and the tries of the LAB.
+const SHARED: [Line; 11] = [
+    // 0; 0 0. A net and its inverse need one entry.
+    ("Aa------", &HOUSE_ENTRIES, 2),
+    // 0; 0 1, which stands before 1 1.
+    ("A---A---", &HOUSE_ENTRIES, 2),
+    // All signals but sclr and sload in both polarities: found at once.
+    ("AaBbCcDE", &HOUSE_ENTRIES, 8),
+    ("AaAaAaAA", &[31], 8),
+    ("AaAaAaAA", &[31; 8], 8),
+    ("AaBb----", &[3, 3], 4),
+    // 0; 0 1; 0 1 0.
+    ("AB--A---", &[5, 1], 3),
+    // 0; 0 1 leaves no entry for aclr, which is of the other net. 1; 1 0; 1 0 0.
+    ("AB--B---", &[5, 1], 5),
+    // P11, but the first aclr is of the first clk's net. With 0 at that clk: 0; 0 1 with
+    // ena 2 3 and 3 2, each with aclr 4; 0 2, 0 2 3. Then the answer, 1 0 2 3 1 4.
+    ("ABCDAE--", &HOUSE_ENTRIES, 1 + 7 + 2 + 6),
+    // sload has entry 0 only, so a need of the other net on it fails. With 0 at the first
+    // clk, the other six may have any of eight entries: 1 + 8 + 64 + 512 + 4,096 + 32,768
+    // + 262,144 = 299,593. So too at the next needs. The answer, 1 1 1 1 1 1 1 0, has
+    // eight.
+    (
+        "AaAaAaAB",
+        &[31, 15, 15, 15, 15, 15, 15, 15],
+        299_593 + 37_449 + 4_681 + 585 + 73 + 9 + 1 + 8,
+    ),
+    // ena, of the other net, has entry 0 only: 0; 0 0; 0 1; 1; 1 0; 1 1; 1 1 0.
+    ("AaB-----", &[3, 1], 7),
+];
+
+/// The same without a way.
+const SHARED_NO_WAY: [Line; 8] = [
+    // An entry is for one net.
+    ("A---B---", &[5], 1),
+    ("ABAB----", &[3], 1),
+    // P11, but one net is at ena and at aclr, which no entry serves.
+    ("ABCDCE--", &HOUSE_ENTRIES, 3 + 6 + 8 + 4 + 4),
+    // The last need has none: each clk with each clk.
+    ("Aa-----B", &[1; 3], 3 + 9),
+    ("Aa-----A", &[1; 3], 3 + 9),
+    ("AB-----A", &[1; 3], 3 + 6),
+    // Nothing serves the eighth need of one net.
+    (
+        "AaAaAaAA",
+        &[15; 8],
+        8 + 64 + 512 + 4096 + 32_768 + 262_144 + 2_097_152,
+    ),
+    // The seventh is of another net: any of the entries that the six others leave, of
+    // which there are 8 * 7 * 7 * 7 * 7 * 7 * 7 in all.
+    (
+        "AaAaAaBC",
+        &[15; 8],
+        8 + 64 + 512 + 4096 + 32_768 + 262_144 + 941_192,
+    ),
 ];
 
 /// Several LABs with needs, rising, and one with a combinational cell only.
@@ -132,13 +189,23 @@ fn six_labs(counts: &str) -> Sheets {
 pub fn all() -> Vec<Example> {
     let mut list = Vec::new();
     let house = board(3, &HOUSE_ENTRIES);
-    for (k, (counts, entries, tries)) in LEGAL.into_iter().chain(NO_WAY).enumerate() {
-        let legal = k < LEGAL.len();
+    type Make = fn(usize, &str) -> Sheets;
+    let sorts: [(&[Line], bool, Make); 4] = [
+        (&LEGAL, true, needs),
+        (&NO_WAY, false, needs),
+        (&SHARED, true, signals),
+        (&SHARED_NO_WAY, false, signals),
+    ];
+    let lines = sorts.iter().flat_map(|&(lines, legal, make)| {
+        let each = lines.iter();
+        each.map(move |&line| (line, legal, make))
+    });
+    for (k, ((text, entries, tries), legal, make)) in lines.enumerate() {
         for lab in [0, 500 + k, 1023] {
             list.push(Example {
-                name: format!("needs {counts} of entries {entries:?}"),
+                name: format!("needs {text} of entries {entries:?}"),
                 settings: board(k as u16, entries),
-                sheets: needs(lab, counts),
+                sheets: make(lab, text),
                 lent: [ROUTE, TRIES],
                 number: if legal { 0 } else { 65 },
                 lab: if legal { NO } else { lab as u64 },

@@ -1,22 +1,23 @@
-//! The tries of a LAB straight from M-106: lists of entries, each tested by itself and
-//! compared with the answer by document 01's order; and a plain search that counts.
-//! A need is given by the entries that serve it, a bit an entry.
+//! The tries of a LAB straight from M-106 and M-107: lists of entries, each tested by
+//! itself and compared with the answer by document 01's order; and a plain search that
+//! counts.
 #![allow(dead_code)]
 
-use crate::plain::{self, word};
+use crate::plain::{word, List, Need};
 use std::collections::{BTreeMap, BTreeSet, HashMap};
 
 /// The tries, and the answer, which is the earliest way.
 pub type Tried = (u32, Option<Vec<u8>>);
 
-/// The first one or more needs given suitable, different entries.
-fn is_partial_way(list: &[u8], needs: &[u8]) -> bool {
+/// The first one or more needs given suitable entries, the same only for the same net.
+fn is_partial_way(list: &[u8], needs: &[Need]) -> bool {
     let suitable = list
         .iter()
         .zip(needs)
-        .all(|(entry, need)| need >> entry & 1 == 1);
-    let different = || (0..list.len()).all(|i| !list[..i].contains(&list[i]));
-    (1..=needs.len()).contains(&list.len()) && suitable && different()
+        .all(|(entry, need)| need.serving >> entry & 1 == 1);
+    let may = |i: usize, j: usize| list[i] != list[j] || needs[i].net == needs[j].net;
+    let rightly_shared = || (0..list.len()).all(|i| (0..i).all(|j| may(i, j)));
+    (1..=needs.len()).contains(&list.len()) && suitable && rightly_shared()
 }
 
 /// The earlier has the smaller entry at the first need where they differ; a shorter one
@@ -29,11 +30,9 @@ fn stands_before(first: &[u8], second: &[u8]) -> bool {
 }
 
 /// Among lists that hold all partial ways.
-fn among<T: AsRef<[u8]>>(lists: impl Iterator<Item = T>, needs: &[u8]) -> Tried {
-    let partial: Vec<T> = lists
-        .filter(|l| is_partial_way(l.as_ref(), needs))
-        .collect();
-    let list = || partial.iter().map(|l| l.as_ref());
+fn among(lists: impl Iterator<Item = List>, needs: &[Need]) -> Tried {
+    let partial: Vec<List> = lists.filter(|l| is_partial_way(l, needs)).collect();
+    let list = || partial.iter().map(|l| &l[..]);
     // A LAB without needs has the empty way.
     let empty: &[u8] = &[];
     let ways = list().chain([empty]).filter(|l| l.len() == needs.len());
@@ -44,21 +43,21 @@ fn among<T: AsRef<[u8]>>(lists: impl Iterator<Item = T>, needs: &[u8]) -> Tried 
 }
 
 /// How many lists `defined` looks at.
-pub fn lists_defined(needs: &[u8], entries: usize) -> usize {
+pub fn lists_defined(needs: &[Need], entries: usize) -> usize {
     (1..=needs.len())
         .map(|length| entries.pow(length as u32))
         .sum()
 }
 
-/// By the definition: all lists of entries, an entry perhaps more than once.
-pub fn defined(needs: &[u8], entries: usize) -> Tried {
-    let digits = |mut number: usize, length: usize| -> Vec<u8> {
+/// By the definition: all lists of entries.
+pub fn defined(needs: &[Need], entries: usize) -> Tried {
+    let digits = |mut number: usize, length: usize| {
         let mut digit = || {
             let last = number % entries;
             number /= entries;
             last as u8
         };
-        (0..length).map(|_| digit()).collect()
+        (0..length).fold(List::default(), |list, _| list.with(digit()))
     };
     let of_length = |length: usize| {
         let each = 0..entries.pow(length as u32);
@@ -67,32 +66,73 @@ pub fn defined(needs: &[u8], entries: usize) -> Tried {
     among((1..=needs.len()).flat_map(of_length), needs)
 }
 
-/// The same among all lists of different entries.
-pub fn listed(needs: &[u8], entries: usize) -> Tried {
-    let lists = (1..=needs.len()).flat_map(|length| plain::lists(entries, length));
-    among(lists, needs)
+/// More lists are not looked at where needs share a net; of different entries there are
+/// at most 109,600.
+const MANY_LISTS: usize = 20_000;
+
+/// The same among the lists that grow by one entry at a time; nothing where there are
+/// too many of them.
+pub fn listed(needs: &[Need]) -> Option<Tried> {
+    let nets: BTreeSet<u16> = needs.iter().map(|need| need.net).collect();
+    let shared = nets.len() < needs.len();
+    if shared && at_least(needs) > MANY_LISTS {
+        return None;
+    }
+    let mut all = vec![List::default()];
+    let mut grown = 0;
+    for _ in needs {
+        let longer = all[grown..].iter().flat_map(|list| list.longer(needs));
+        let longer: Vec<List> = longer.collect();
+        grown = all.len();
+        all.extend(longer);
+        if shared && all.len() > MANY_LISTS {
+            return None;
+        }
+    }
+    Some(among(all.into_iter(), needs))
+}
+
+/// There are at least so many: a need takes no more than one entry from a later one of
+/// another net.
+fn at_least(needs: &[Need]) -> usize {
+    let mut last = 1;
+    let longer = |(k, need): (usize, &Need)| {
+        let others = needs[..k].iter().filter(|n| n.net != need.net);
+        let open = need.serving.count_ones() as usize;
+        last *= open.saturating_sub(others.count());
+        last
+    };
+    needs.iter().enumerate().map(longer).sum()
 }
 
 /// The same by a plain search.
-pub fn searched(needs: &[u8], entries: usize) -> Tried {
+pub fn searched(needs: &[Need]) -> Tried {
     let mut way = vec![0; needs.len()];
     let mut tries = 0;
-    let found = search(needs, entries, 0, &mut way, &mut tries);
+    let found = search(needs, &mut NOT_HELD.clone(), &mut way, &mut tries);
     (tries, found.then_some(way))
 }
 
-/// Gives the first need each free entry that serves it, the lowest first.
-pub fn search(needs: &[u8], entries: usize, taken: u8, way: &mut [u8], tries: &mut u32) -> bool {
-    let Some((&need, others)) = needs.split_first() else {
+/// The net that holds each entry.
+pub type Held = [Option<u16>; 8];
+pub const NOT_HELD: Held = [None; 8];
+
+/// Gives the first need each entry that serves it and is free or held by its net, the
+/// lowest first.
+pub fn search(needs: &[Need], held: &mut Held, way: &mut [u8], tries: &mut u32) -> bool {
+    let Some((need, others)) = needs.split_first() else {
         return true;
     };
-    for entry in 0..entries {
-        if (need & !taken) >> entry & 1 == 1 {
+    for entry in 0..8 {
+        let before = held[entry];
+        if need.serving >> entry & 1 == 1 && before.is_none_or(|net| net == need.net) {
             *tries += 1;
             way[0] = entry as u8;
-            if search(others, entries, taken | 1 << entry, &mut way[1..], tries) {
+            held[entry] = Some(need.net);
+            if search(others, held, &mut way[1..], tries) {
                 return true;
             }
+            held[entry] = before;
         }
     }
     false
@@ -117,17 +157,31 @@ pub fn needs_by_lab(exercise: &[u8], answer: &[u8]) -> BTreeMap<usize, Needs> {
     labs
 }
 
-/// The entries that serve each need, by its role.
-pub fn serving(roles: impl Iterator<Item = usize>, entries: &[u8]) -> Vec<u8> {
-    let bit = |role: usize, entry: usize| (entries[entry] >> role & 1) << entry;
-    roles
-        .map(|role| (0..entries.len()).fold(0, |all, entry| all | bit(role, entry)))
-        .collect()
+/// Needs on a board with these entries, their nets numbered as they come.
+pub fn on_board<'a>(
+    needs: impl IntoIterator<Item = &'a (usize, u16)>,
+    entries: &[u8],
+) -> Vec<Need> {
+    let mut nets = Vec::new();
+    let numbered = |&(role, signal): &(usize, u16)| {
+        let need = Need::new(role, signal, entries);
+        let known = nets.iter().position(|&n| n == need.net);
+        let number = known.unwrap_or_else(|| {
+            nets.push(need.net);
+            nets.len() - 1
+        });
+        Need {
+            net: number as u16,
+            ..need
+        }
+    };
+    needs.into_iter().map(numbered).collect()
 }
 
-/// What `listed` gives, found once for the same needs.
+/// What `listed` gives, or `searched` where it gives nothing, found once for the same
+/// needs.
 pub struct Known {
-    found: HashMap<(Vec<u8>, usize), (u32, bool)>,
+    found: HashMap<Vec<Need>, Tried>,
 }
 
 impl Known {
@@ -137,18 +191,13 @@ impl Known {
         }
     }
 
-    /// The tries, and whether there is an answer.
-    pub fn tries(&mut self, roles: impl Iterator<Item = usize>, entries: &[u8]) -> (u32, bool) {
+    pub fn tried(&mut self, needs: &[Need]) -> Tried {
         if self.found.len() > 1 << 16 {
             self.found.clear();
         }
-        let needs = serving(roles, entries);
-        *self
-            .found
-            .entry((needs, entries.len()))
-            .or_insert_with_key(|(needs, count)| {
-                let (tries, answer) = listed(needs, *count);
-                (tries, answer.is_some())
-            })
+        let found = self.found.entry(needs.to_vec());
+        found
+            .or_insert_with(|| listed(needs).unwrap_or_else(|| searched(needs)))
+            .clone()
     }
 }

@@ -3,10 +3,8 @@
 
 use crate::generate::*;
 use crate::plain::Settings;
-use crate::settings::{self, has_way};
-
-/// How many needs of clk, ena, aclr, sclr and sload.
-pub type Counts = [usize; 5];
+use crate::settings;
+use crate::try_forms::{on_board, Needs};
 
 pub struct Made {
     pub settings: Settings,
@@ -15,7 +13,7 @@ pub struct Made {
     pub number: u8,
     pub lab: Option<usize>,
     /// The LABs that are searched, rising.
-    pub searched: Vec<(usize, Counts)>,
+    pub searched: Vec<(usize, Needs)>,
 }
 
 /// The flags of an entry that serves these roles.
@@ -25,7 +23,7 @@ fn flags(roles: [bool; 5]) -> u8 {
 
 /// Entries of every sort, so many of them.
 fn entries(rng: &mut Rng, count: usize) -> Vec<u8> {
-    match rng.below(9) {
+    match rng.below(10) {
         // Each role has its own chance.
         0..=2 => {
             let chances = [0; 5].map(|_: usize| rng.pick(&[20, 40, 60, 80, 100]));
@@ -40,10 +38,15 @@ fn entries(rng: &mut Rng, count: usize) -> Vec<u8> {
             let entry = |entry| flags(limits.map(|limit| entry < limit));
             (0..count).map(entry).collect()
         }
-        // The board with the latest answer that is known, or the first entries of it.
-        6 => [31, 15, 7, 7, 7, 7, 7, 7][..count].to_vec(),
+        // The boards with the latest answers that are known, for different nets and for
+        // two, or the first entries of them.
+        6 => {
+            let second = rng.pick(&[7, 15]);
+            let all = [31, 15, second, second, second, second, second, second];
+            all[..count].to_vec()
+        }
         // All roles, or all but one.
-        7 => vec![31 & !(1 << rng.pick(&[0, 1, 2, 3, 4, 4, 4, 5])); count],
+        7..=8 => vec![31 & !(1 << rng.pick(&[0, 1, 2, 3, 4, 4, 4, 5])); count],
         // One role an entry.
         _ => (0..count).map(|_| 1 << rng.below(5)).collect(),
     }
@@ -57,20 +60,35 @@ fn up_to_eight(rng: &mut Rng) -> usize {
     }
 }
 
-fn needs(rng: &mut Rng) -> Counts {
-    let mut slots = [0, 0, 1, 1, 2, 2, 3, 4];
-    rng.shuffle(&mut slots);
-    let mut counts = [0; 5];
-    let own = &slots[..up_to_eight(rng)];
-    own.iter().for_each(|&role| counts[role] += 1);
-    counts
+/// Needs of any roles, with nets of the pool: all different, one for most needs or for all
+/// before sclr and sload, or any of a few.
+fn needs(rng: &mut Rng, pool: &[u16]) -> Needs {
+    let mut roles = ROLES;
+    rng.shuffle(&mut roles);
+    let mut nets = pool.to_vec();
+    rng.shuffle(&mut nets);
+    let (kind, few) = (rng.below(10), rng.pick(&[1, 1, 1, 2, 2, 3]));
+    let mut list = Needs::new();
+    for (k, &role) in roles[..up_to_eight(rng)].iter().enumerate() {
+        let place = match kind {
+            0..=2 => k,
+            3 => rng.pick(&[0, 0, 0, 0, 0, 0, 1, 2]),
+            4 => rng.below(3) * (role > 2) as usize,
+            _ => rng.below(few),
+        };
+        let signal = nets[place] + rng.percent(30) as u16;
+        // The inverse where the role has the signal already.
+        let again = list.contains(&(role, signal));
+        list.insert((role, signal ^ again as u16));
+    }
+    list
 }
 
 /// Needs that have a way on the board, or have none; nothing where no draw gives them.
-fn needs_with(rng: &mut Rng, board: &[u8], way: bool) -> Option<Counts> {
+fn needs_with(rng: &mut Rng, pool: &[u16], board: &[u8], way: bool) -> Option<Needs> {
     (0..30)
-        .map(|_| needs(rng))
-        .find(|&counts| has_way(board, counts) == way)
+        .map(|_| needs(rng, pool))
+        .find(|needs| settings::has_way(&on_board(needs, board)) == way)
 }
 
 /// The cells of LABs, all with the same few control nets.
@@ -105,13 +123,19 @@ impl Maker<'_> {
     }
 
     /// Cells that have exactly these needs and keep 60 to 64.
-    fn lab(&mut self, lab: usize, counts: Counts) {
-        let signals = counts.map(|n| distinct(self.rng, &self.pool, n, &[], 0));
+    fn lab(&mut self, lab: usize, needs: &Needs) {
+        let signals = [0, 1, 2, 3, 4].map(|role| {
+            let own = needs.iter().filter(|need| need.0 == role);
+            let mut own: Vec<u16> = own.map(|need| need.1).collect();
+            self.rng.shuffle(&mut own);
+            own
+        });
+        let counts = signals.each_ref().map(Vec::len);
         let [first, second] = self.two(&signals);
         // A second aclr may be on an unused register only.
         let apart = counts[2] == 2 && !counts[..2].contains(&2) && self.rng.percent(40);
         let whole = !apart && (counts.contains(&2) || self.rng.percent(50));
-        if counts != [0; 5] || self.rng.percent(50) {
+        if !needs.is_empty() || self.rng.percent(50) {
             self.register(lab, 0, first);
         }
         if whole {
@@ -179,8 +203,8 @@ impl Maker<'_> {
             let number = self.rng.range(60, 64) as u8;
             self.broken(lab, number);
         } else {
-            let counts = needs(self.rng);
-            self.lab(lab, counts);
+            let needs = needs(self.rng, &self.pool);
+            self.lab(lab, &needs);
         }
     }
 
@@ -228,7 +252,8 @@ pub fn some(rng: &mut Rng) -> Made {
         _ => rng.range(1, 6),
     };
     let labs = some_labs(rng, labs);
-    let no_way = needs_with(rng, &board, false);
+    let pool: Vec<u16> = (0..rng.range(8, 10) as u16).map(net).collect();
+    let no_way = needs_with(rng, &pool, &board, false);
     let number = match wanted(rng) {
         65 if no_way.is_none() => 0,
         number => number,
@@ -238,18 +263,18 @@ pub fn some(rng: &mut Rng) -> Made {
         0 => labs.len(),
         _ => rng.below(labs.len()),
     };
-    let mut made = maker(rng);
+    let mut made = maker(rng, pool);
     let mut searched = Vec::new();
     for &lab in &labs[..legal] {
-        let counts = needs_with(made.rng, &board, true).unwrap_or([0; 5]);
-        made.lab(lab, counts);
-        searched.push((lab, counts));
+        let needs = needs_with(made.rng, &made.pool, &board, true).unwrap_or_default();
+        made.lab(lab, &needs);
+        searched.push((lab, needs));
     }
     let refused = labs.get(legal).copied();
     match (refused, no_way) {
-        (Some(lab), Some(counts)) if number == 65 => {
-            made.lab(lab, counts);
-            searched.push((lab, counts));
+        (Some(lab), Some(needs)) if number == 65 => {
+            made.lab(lab, &needs);
+            searched.push((lab, needs));
         }
         (Some(lab), _) => made.broken(lab, number),
         _ => {}
@@ -277,16 +302,11 @@ fn with_version(rng: &mut Rng, entries: Vec<u8>) -> Settings {
     }
 }
 
-fn maker(rng: &mut Rng) -> Maker<'_> {
-    let nets = rng.range(2, 9) as u16;
+fn maker(rng: &mut Rng, pool: Vec<u16>) -> Maker<'_> {
     let sheets = Sheets {
-        nets,
+        nets: pool.len() as u16,
         cells: Vec::new(),
         apprentice: 1 + rng.below(1000) as u32,
     };
-    Maker {
-        rng,
-        sheets,
-        pool: (0..nets).map(net).collect(),
-    }
+    Maker { rng, sheets, pool }
 }

@@ -1,11 +1,12 @@
-//! The tries that both judges report beside those of M-106's definition; sheets made for
-//! the search; lists of other lengths; and the forms of the tries beside each other.
+//! The tries that both judges report beside those of the definition in M-106 and M-107;
+//! sheets made for the search; lists of other lengths; and the forms of the tries beside
+//! each other.
 
 use crate::both::{Both, Call};
 use crate::forms::same;
 use crate::generate::*;
 use crate::judge;
-use crate::plain::{self, CellRecord};
+use crate::plain::{self, CellRecord, Need};
 use crate::settings;
 use crate::tries;
 use crate::try_cases::{Counts, Judged, Lab, LENGTHS};
@@ -31,7 +32,7 @@ impl Trying {
         }
     }
 
-    /// The list that both left after a call, beside the list by definition.
+    /// The list that both left after a call, and the route, beside those by definition.
     pub fn judged(&mut self, call: &Call, n: &[u64; 7], both: &Both) -> Result<(), String> {
         let number = n[0] as u8;
         let mut list = both.tries_before().to_vec();
@@ -46,6 +47,10 @@ impl Trying {
                 list.fill(0);
                 searched.iter().for_each(|l| list[l.number] = l.tries);
                 within_limit(&list)?;
+            }
+            for lab in searched.iter().filter(|_| number == 0) {
+                let own = &both.route()[8 * lab.number..][..8];
+                same("route bytes", own, &lab.bytes()[..])?;
             }
             self.counts.note(&Judged {
                 number,
@@ -71,14 +76,15 @@ impl Trying {
             if lab >= refused && !no_way {
                 break;
             }
-            let roles = needs.iter().map(|&(role, _)| role);
-            let (tries, found) = self.known.tries(roles, entries);
-            same("a way", found, !no_way)?;
+            let on_board = try_forms::on_board(&needs, entries);
+            let (tries, way) = self.known.tried(&on_board);
+            same("a way", way.is_some(), !no_way)?;
             searched.push(Lab {
                 number: lab,
-                needs,
+                needs: needs.into_iter().collect(),
+                on_board,
                 tries,
-                found,
+                way,
             });
         }
         Ok(searched)
@@ -139,43 +145,49 @@ impl Trying {
             return Ok(());
         }
         let mut list = [0; judge::TRIES];
-        for (lab, counts) in &made.searched {
-            let roles = (0..5).flat_map(|role| std::iter::repeat_n(role, counts[role]));
-            list[*lab] = self.known.tries(roles, &made.settings.entries).0;
+        for (lab, needs) in &made.searched {
+            let on_board = try_forms::on_board(needs, &made.settings.entries);
+            list[*lab] = self.known.tried(&on_board).0;
         }
         same_lists(both.tries(), &list)
     }
 
-    /// A table by all forms: needs with any entries, of no board.
+    /// A table by all forms: needs of any nets with any entries, of no board.
     pub fn table(&mut self, rng: &mut Rng) -> Result<(), String> {
         let (entries, count) = (rng.below(9), rng.below(9));
         let chance = rng.pick(&[20, 50, 70, 85, 100]);
-        let mut need = || (0..entries).fold(0, |n, e| n | (rng.percent(chance) as u8) << e);
-        let mut needs: Vec<u8> = (0..count).map(|_| need()).collect();
+        // All nets different, one net, or a few.
+        let few = rng.pick(&[0, 0, 1, 1, 2, 3]);
+        let mut need = |k: usize| Need {
+            serving: (0..entries).fold(0, |n, e| n | (rng.percent(chance) as u8) << e),
+            net: if few == 0 { k } else { rng.below(few) } as u16,
+        };
+        let mut needs: Vec<Need> = (0..count).map(&mut need).collect();
         // The last need alone may lack an entry.
         if rng.percent(30) && count > 0 {
-            needs[count - 1] = 0;
+            needs[count - 1].serving = 0;
         }
         self.forms(&needs, entries)
             .map_err(|wrong| format!("table of {entries} entries, needs {needs:?}: {wrong}"))
     }
 
     /// All forms say the same.
-    fn forms(&mut self, needs: &[u8], entries: usize) -> Result<(), String> {
-        let (tries, answer) = try_forms::listed(needs, entries);
-        let told = (tries, answer.clone());
-        same("search", &try_forms::searched(needs, entries), &told)?;
+    fn forms(&mut self, needs: &[Need], entries: usize) -> Result<(), String> {
+        let told = try_forms::searched(needs);
+        if let Some(listed) = try_forms::listed(needs) {
+            same("lists", &listed, &told)?;
+            self.counts.listed += 1;
+        }
         if try_forms::lists_defined(needs, entries) <= FEW_LISTS {
             same("definition", &try_forms::defined(needs, entries), &told)?;
             self.counts.defined += 1;
         }
-        let counted = match &answer {
-            Some(way) => tries::up_to(needs, way),
-            None => tries::all(needs),
-        };
-        same("count by sets", counted, tries)?;
+        let (tries, way) = tries::search(needs);
+        let way = way.map(|way| way[..needs.len()].to_vec());
+        same("the judge's search", &(tries, way), &told)?;
         within_limit(&[tries])?;
-        let found = answer.is_some();
+        let found = told.1.is_some();
+        same("a way", settings::has_way(needs), found)?;
         self.counts.note_table(entries, needs.len(), tries, found);
         Ok(())
     }

@@ -120,9 +120,10 @@ def unfit(place):
     with_tries = lambda **counts: lambda judged: judged._replace(tries=[counts.get("lab%d" % lab, old) for lab, old in enumerate(judged.tries)])
     with_route = lambda at, byte: lambda judged: judged._replace(route=sheets.patch(judged.route, at, byte))
     with_verdict = lambda **parts: lambda judged: judged._replace(verdict=judged.verdict._replace(**parts))
+    too_many = tries.MOST_TRIES + 1
     # LAB 68 of p10 has six tries for four needs; LAB 69 is empty.
     cases = [("p10", dict(judged=change)) for change in (
-        with_tries(lab68=3), with_tries(lab68=0), with_tries(lab68=109601), with_tries(lab69=1), with_tries(lab0=0xa5a5a5a5),
+        with_tries(lab68=3), with_tries(lab68=0), with_tries(lab68=too_many), with_tries(lab69=1), with_tries(lab0=0xa5a5a5a5),
         with_route(8 * 68, 1), with_route(8 * 68 + 7, 3), with_route(8 * 69, 0), with_route(8191, 0xa5), with_verdict(lab=68), with_verdict(lab=69),
         with_verdict(number=65), with_verdict(number=65, lab=68), with_verdict(number=60, lab=68), with_verdict(number=99))]
     cases += [("p10", dict(check_lab=change)) for change in (
@@ -132,7 +133,7 @@ def unfit(place):
     cases += [("p10", dict(records=lambda said: None, places=lambda said: None))]
     # LAB 68 is below, LAB 70 refused, LAB 71 above.
     cases += [("v65-35-tries", dict(judged=change)) for change in (
-        with_tries(lab68=0), with_tries(lab68=3), with_tries(lab70=109601), with_tries(lab71=2), with_tries(lab100=1), with_tries(lab3=1),
+        with_tries(lab68=0), with_tries(lab68=3), with_tries(lab70=too_many), with_tries(lab71=2), with_tries(lab100=1), with_tries(lab3=1),
         with_tries(lab72=1), with_route(0, 0), with_verdict(lab=71), with_verdict(lab=68), with_verdict(lab=72), with_verdict(lab=65535),
         with_verdict(number=0), with_verdict(number=64))]
     cases += [("v65-35-tries", dict(check_lab=change)) for change in (
@@ -140,6 +141,11 @@ def unfit(place):
     cases += [("v60-three-clocks", dict(judged=change)) for change in (
         with_tries(lab3=1), with_tries(lab1023=0), with_route(0, 255), with_verdict(number=0), with_verdict(number=65))]
     cases += [("legal-constants", dict(judged=with_tries(lab42=1)))]
+    # Two needs that share an entry are two needs, with two tries at least and two route bytes. LAB 227 is below a refused one.
+    cases += [("legal-clock-and-inverse", dict(judged=change)) for change in (
+        with_tries(lab49=1), with_route(8 * 49 + 1, 1), with_route(8 * 49 + 1, 255))]
+    cases += [("legal-clock-and-inverse", dict(check_lab=lambda said: (0, sheets.patch(said[1], 1, 1))))]
+    cases += [("v65-two-nets", dict(judged=with_tries(lab227=1))), ("v65-two-nets", dict(judged=with_tries(lab228=too_many)))]
     for name, changes in cases:
         place.fill(sample(name))
         right = place.library

@@ -25,6 +25,8 @@ library.nurimkkot_judge.restype = None
 library.nurimkkot_judge.argtypes = ([ctypes.c_char_p, ctypes.c_size_t] * 3
                                     + [ctypes.c_void_p, ctypes.c_size_t] * 2 + [ctypes.c_void_p])
 NONE = 65535
+ONE_NET = ("legal, an entry for two needs", "legal, an entry for three and more",
+           "legal, needs of one net, no entry shared", "refused, needs of one net")
 
 
 def judge(board, ex, an):
@@ -139,30 +141,41 @@ def nets_in(cells, lab):
     return sorted({int(signal[4:]) for _, signal in ports if signal not in driven})
 
 
-def roles_of(lab):
-    return tuple(need.split()[0] for need in lab["needs"])
+def needs_of(lab):
+    """Role and net of each need. The nets are numbered as they come: which they are makes no
+    difference."""
+    needs = [need.split(" ", 1) for need in lab["needs"]]
+    nets = [signal.lstrip("/") for _, signal in needs]
+    return tuple((role, nets.index(own)) for (role, _), own in zip(needs, nets))
+
+
+def one_net(needs, entries):
+    """The earliest way or None, and the tries, of needs that take no entry from each other: there
+    are as many lists as choices, and the earliest way has the lowest of each."""
+    choices = [[entry for entry, roles in enumerate(entries) if role in roles] for role, _ in needs]
+    if all(choices):
+        return tuple(own[0] for own in choices), len(needs)
+    return None, sum(itertools.accumulate(map(len, choices), int.__mul__))
 
 
 @functools.lru_cache(maxsize=None)
-def earliest(roles, entries):
-    """The earliest way, found by trying all lists of different entries in their order, or None."""
-    for way in itertools.permutations(range(len(entries)), len(roles)):
-        if all(role in entries[entry] for role, entry in zip(roles, way)):
-            return way
-    return None
-
-
-@functools.lru_cache(maxsize=None)
-def tries_of(roles, entries):
-    """The tries: of all lists of different entries for the first one or more needs, those that
-    serve them and are at or before the earliest way."""
-    way, count = earliest(roles, entries), 0
-    for length in range(1, len(roles) + 1):
-        for some in itertools.permutations(range(len(entries)), length):
-            if way is not None and some > way[:length]:
-                break
-            count += all(role in entries[entry] for role, entry in zip(roles, some))
-    return count
+def searched(needs, entries):
+    """The same of any needs: lists of entries for the first one or more that serve them, in their
+    order, up to the first that serves all. Each is one of those before it with one entry more,
+    which no need of another net has."""
+    if len({own for _, own in needs}) == 1:
+        return one_net(needs, entries)
+    tries, longer = 0, [()]
+    while longer:
+        some = longer.pop()
+        tries += some != ()
+        if len(some) == len(needs):
+            return some, tries
+        role, own = needs[len(some)]
+        others = {entry for entry, (_, other) in zip(some, needs) if other != own}
+        longer += [some + (entry,) for entry in reversed(range(len(entries)))
+                   if role in entries[entry] and entry not in others]
+    return None, tries
 
 
 def broken(lab, entries):
@@ -177,7 +190,7 @@ def broken(lab, entries):
         return 63
     if len(lab["nets in"]) > 38:
         return 64
-    if earliest(roles_of(lab), entries) is None:
+    if searched(needs_of(lab), entries)[0] is None:
         return 65
     return 0
 
@@ -194,7 +207,7 @@ def route_of(lab, entries):
     assert order == sorted(set(order)), needs
     route = bytearray([255] * 8)
     seen = {role: 0 for role in ROLES}
-    for (role, _), entry in zip(needs, earliest(roles_of(lab), entries)):
+    for (role, _), entry in zip(needs, searched(needs_of(lab), entries)[0]):
         route[BYTES[role][seen[role]]] = entry
         seen[role] += 1
     return bytes(route)
@@ -234,17 +247,32 @@ def hold(what, board, ex, an, tally):
     counted = [0] * 1024
     for n, has in labs.items():
         if number == 0 or number == 65 and n <= lab:
-            counted[n] = tries_of(roles_of(has), entries)
+            counted[n] = searched(needs_of(has), entries)[1]
     assert tries == counted, (what, "other tries")
     tally[number] = tally.get(number, 0) + 1
-    for has in labs.values():
+    for key in seen_in(number, lab, labs, entries):
+        tally[key] = tally.get(key, 0) + 1
+
+
+def seen_in(number, lab, labs, entries):
+    """What there is in the LABs of a legal answer, and in one that is refused with 65."""
+    for n, has in labs.items():
+        is_twice = len(has["needs"]) > len({own for _, own in needs_of(has)})
+        if number == 65 and n == lab and is_twice:
+            yield "refused, needs of one net"
+        if number:
+            continue
+        way = searched(needs_of(has), entries)[0]
         at_most = (len(has["clk"]) == 2, len(has["(clk, ena)"]) == 2, len(has["aclr"]) == 2,
                    len(has["(sload, sclr)"]) == 1, len(has["nets in"]) == 38,
-                   len(has["needs"]) == len(entries) > 5)
-        for rule, is_full in zip(range(60, 66), at_most):
-            if number == 0 and is_full:
-                key = "legal, full for %d" % rule
-                tally[key] = tally.get(key, 0) + 1
+                   len(set(way)) == len(entries) > 5)
+        yield from ("legal, full for %d" % rule
+                    for rule, is_full in zip(range(60, 66), at_most) if is_full)
+        shared = max(map(way.count, way), default=0)
+        if shared > 1:
+            yield "legal, an entry for %s" % ("two needs" if shared == 2 else "three and more")
+        elif is_twice:
+            yield "legal, needs of one net, no entry shared"
 
 
 # ---------------------------------------------------------------- random sheets
@@ -307,14 +335,15 @@ def fill_lab(rng, nets, pool, x, y, taken, cells):
     """Cells with their places in one LAB, and a carry chain that may go on in the next one."""
     inside = [nets.fresh() for _ in range(rng.randint(0, 4))]
     data = [nets.fresh() for _ in range(rng.choice([1, 5, 20, 33, 35, 36, 37, 38, 40]))]
-    controls = rng.sample(pool, 6) + inside[:1]
+    controls = rng.sample(pool, rng.choice([1, 2, 3, 6, 6, 6])) + inside[:1]
     tame = rng.random() < 0.6
     ports = {name: control(rng, most if tame else most + 1, controls)
              for name, most in (("clk", 2), ("ena", 1), ("aclr", 2))}
     ports["synchronous"] = synchronous(rng, controls, tame)
     if rng.random() < 0.3:
-        # Many needs: two pairs of nets, two aclr, often sclr or sload or both.
-        two = lambda: [either(rng, n) for n in rng.sample(controls, 2)]
+        # Many needs, of a few nets or one: two pairs of nets, two aclr, often sclr or sload or both.
+        few = rng.sample(controls, rng.choice([1, len(controls), len(controls)]))
+        two = lambda: rng.sample([signal for n in few for signal in (net(n), inv(n))], 2)
         some = lambda: rng.choice([OPEN, two()[0]])
         ports.update(pairs=list(zip(two(), two())), aclr=two(), synchronous=[(some(), some())])
     free = [le for le in range(16) if (2, x, y, le) not in taken]
@@ -432,6 +461,8 @@ def main():
         assert on_random.get(number, 0) >= PAIRS // 100, "few random sheets with %d: %s" % (number, on_random)
         if number:
             assert on_random.get("legal, full for %d" % number), "no legal LAB at the limit of %d" % number
+    for key in ONE_NET:
+        assert on_samples.get(key) and on_random.get(key, 0) >= PAIRS // 100, (key, on_samples, on_random)
     count = lambda tally: sum(n for key, n in tally.items() if key == 0 or key in range(60, 66))
     print("words: --labs counts as the judge does, on %d pairs of samples, %d random pairs and %d damaged ones, each on a board"
           % (count(on_samples), count(on_random), count(damaged_pairs)))

@@ -198,7 +198,7 @@ fn differ(table: EntryTable, needs: [Need; 8], n: usize, at: usize, f: usize, e:
     false
 }
 
-// Whether e, of this kind, fails as f did, of which `noted` was noted.
+// Whether e, of this kind, fails as f did, of which `noted` was noted: two of kind 1 always do, two of kind 2 where they serve the same.
 fn fails_like(
     table: EntryTable,
     needs: [Need; 8],
@@ -221,7 +221,7 @@ fn fails_like(
     !differ(table, needs, n, at, f, e)
 }
 
-// An entry that failed as e does, where one has failed and there is such an entry; otherwise ENTRIES.
+// An entry before e that failed as e does, where one has failed and there is such an entry; otherwise ENTRIES.
 fn failed_like(
     failed: bool,
     noted: [u8; ENTRIES],
@@ -232,13 +232,13 @@ fn failed_like(
     held: [u16; ENTRIES],
     e: usize,
 ) -> usize
-    requires { ⌜ (at < n) × (n ≤ 8) ⌝ }
+    requires { ⌜ (at < n) × (n ≤ 8) × (e < ENTRIES) ⌝ }
     ensures { λ r. ⌜ (r < ENTRIES → failsLike table (slice (at + 1) n needs) (getD noted r 0) (kindOf table held (needAt needs at) (slice (at + 1) n needs) e) r e ≡ true) ⌝ }
 {
     if failed {
         let kind = kind_of(table, needs, n, at, held, e);
         let mut f: usize = 0;
-        while f < ENTRIES {
+        while f < e {
             let mark = noted[f];
             if fails_like(table, needs, n, at, mark, kind, f, e) {
                 return f;

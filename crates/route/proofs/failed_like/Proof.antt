@@ -3,15 +3,14 @@ use Prim.Native.Nat.{_-_, _≤_}
 use mathlib.Core.Path.{sym, _∙_}
 use borrow.Author.Needs.{needs}
 use native.Mathlib.Omega.{arith}
-use Rattle.route.specs.Table.{ENTRIES}
 use Rattle.route.proofs.failed_like.Statement.{statement}
 use Rattle.route.proofs.failed_like.Tie as tie
 
 abbrev Inv-loop : tie.InvT-loop
-Inv-loop failed table needs n at e noted kind f₀ f = f ≤ ENTRIES
+Inv-loop failed table needs n at e noted kind f₀ f = f ≤ e
 
 abbrev μ-loop : tie.MeasureT-loop
-μ-loop failed table needs n at e noted kind f₀ f = ENTRIES - f
+μ-loop failed table needs n at e noted kind f₀ f = e - f
 
 pub failed-like-spec : {M : Type 1} → statement M
 failed-like-spec =

@@ -1,4 +1,4 @@
--- `first_way` meets its contract: it is `place` from the first need on with no entry taken. A count above eight means the whole list.
+-- `first_way` meets its contract: it is `place` from the first need on with no entry held. A count above eight means the whole list.
 -- Assumes nothing.
 use mathlib.Core.Path.{_≡_, refl, _∙_}
 use borrow.Author.Needs.{needs}
