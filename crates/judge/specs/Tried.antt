@@ -22,5 +22,5 @@ pub record TriesTold : Type 0 where
   -- "empty LABs, and those above a refused one, get 0"
   pub empty : (c : Call) (before : List ℕ) → OneOf (judged c) (0 ∷ 65 ∷ []) → (l : ℕ) → l < 1024 → occupied c l ≡ false → getD (tried c before) l 0 ≡ 0
   pub above : (c : Call) (before : List ℕ) → judged c .number ≡ 65 → (l : ℕ) → l < 1024 → judged c .lab < l → getD (tried c before) l 0 ≡ 0
-  -- "is at most 19,173,960 with eight needs and eight entries": no LAB that is told has more of either
+  -- "is at most .. with eight needs and eight entries", and M-107, "The limit there becomes 19,173,960": no LAB that is told has more of either
   pub most : (c : Call) (before : List ℕ) → OneOf (judged c) (0 ∷ 65 ∷ []) → (l : ℕ) → l < 1024 → getD (tried c before) l 0 ≤ 19173960

@@ -5,7 +5,7 @@ use mathlib.Core.Path.{_≡_, refl}
 use mathlib.Core.Bool.{Bool, true, false}
 use mathlib.Core.List.{List, [], _∷_}
 use mathlib.Core.Option.{Option, none, some}
-use native.Mathlib.Nat.{suc-mul, mul-le-mul, mul-le-mul-left, le-trans}
+use native.Mathlib.Nat.{suc-mul, mul-le-mul, le-trans}
 use native.Mathlib.Omega.{arith}
 use lib.ListN.{length, take, length-take, length-drop}
 use lib.Seq.{slice}

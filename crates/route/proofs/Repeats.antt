@@ -1,9 +1,9 @@
 -- What `place` notes of the entries that failed, and why an entry that is like one of them fails too, after as many tries: either makes no difference
 -- to the needs after this one, or both are free and serve the same of them. Assumes nothing.
 use Prim.Native.Nat.{ℕ, _+_, _<_}
-use mathlib.Core.Path.{_≡_, refl, sym, ap, _∙_}
+use mathlib.Core.Path.{_≡_, refl, sym, _∙_}
 use mathlib.Core.Logic.{_⊎_, inl, inr, ⊎-elim}
-use mathlib.Core.Bool.{Bool, true, false, not, _||_}
+use mathlib.Core.Bool.{Bool, true, false, not, _||_, true≢false}
 use mathlib.Core.List.{List}
 use mathlib.Core.Option.{none}
 use native.Mathlib.Omega.{arith}
@@ -12,7 +12,7 @@ use lib.Dec.{eqb}
 use lib.Seq.{slice, getD-set-same, getD-set-other}
 use borrow.Author.Tests.{eqb-true, eqb-false, eq-eqb, ne-eqb, not-true}
 use Rattle.sheet.specs.Lists.{anyb}
-use Rattle.sheet.proofs.Laws.{by-test, and-parts, or-parts}
+use Rattle.sheet.proofs.Laws.{by-test, and-parts}
 use Rattle.route.specs.declared.Need.{Need}
 use Rattle.route.specs.Table.{Table, ENTRIES, needAt}
 use Rattle.route.specs.passes.Search.{mayHave, heldBy, servesOther, isIdle, differFor, kindOf, failsLike}
@@ -51,7 +51,7 @@ module _ (t : Table) (held : List ℕ) (n : Need) (ns : List Need) (e : ℕ) whe
   busy-free : isIdle t held n ns e ≡ false → getD held e 0 ≡ 0
   busy-free q =
       by-test (eqb (getD held e 0) 0) (λ p. eqb-true (getD held e 0) 0 p)
-      (λ p. let z : _≡_ {A = ℕ} 0 1 = let held-one : true ≡ false = rw p at q in cc in absurd (omega arith))
+      (λ p. absurd (true≢false (rw p at q)))
 
 -- ---- what is noted
 module _ (t : Table) (held : List ℕ) (needs : List Need) (n at : ℕ) where

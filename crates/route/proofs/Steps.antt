@@ -26,19 +26,23 @@ module _ (ok : ℕ → Bool) (rest : ℕ → Option (List ℕ)) (size e : ℕ) w
       let count : size - e ≡ 0 = omega arith in
       rw count refl
 
+-- an answer that finds nothing says that there is nothing
+pub found-none : (at : ℕ) (o : Option (List ℕ)) (r : Routed) → r ≡ routedFrom at o → r .found ≡ false → o ≡ none
+unfolding routedFrom
+found-none at none r q f = refl
+found-none at (some w) r q f = absurd (true≢false (sym (ap (λ (x : Routed). x .found) q) ∙ f))
+
 -- e tried: it may not be given, the other needs find nothing, or they find their entries
 module _ (at : ℕ) (b : Bool) (e : ℕ) (other : Option (List ℕ)) where
   pub not-given : (found : Option (List ℕ)) → b ≡ false → attempt b found e other ≡ other
   not-given found p = rw p refl
 
   pub not-found : (found : Option (List ℕ)) (r : Routed) → r ≡ routedFrom at found → r .found ≡ false → attempt b found e other ≡ other
-  unfolding routedFrom
-  not-found none r q f = neither b
+  not-found found r q f = rw (found-none at found r q f) (neither b)
     where
       neither : (x : Bool) → attempt x none e other ≡ other
       neither true = refl
       neither false = refl
-  not-found (some w) r q f = absurd (true≢false (sym (ap (λ (x : Routed). x .found) q) ∙ f))
 
   pub is-found : (found : Option (List ℕ)) (r : Routed) → b ≡ true → r ≡ routedFrom (at + 1) found → r .found ≡ true
       → _≡_ {A = Routed} (record { found = true; entries = set (r .entries) at e }) (routedFrom at (attempt b found e other))

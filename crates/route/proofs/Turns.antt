@@ -8,15 +8,15 @@ use mathlib.Core.Option.{Option, none, some}
 use native.Mathlib.Numerals.{add-one}
 use native.Mathlib.Nat.{zero-add}
 use native.Mathlib.Omega.{arith}
-use lib.ListN.{length, set, replicate}
+use lib.ListN.{length, replicate}
 use lib.Seq.{slice, slice-cons, slice-empty}
 use Rattle.route.specs.declared.Need.{Need}
 use Rattle.route.specs.declared.Routed.{Routed}
 use Rattle.route.specs.declared.WaySearch.{WaySearch}
 use Rattle.route.specs.Table.{needAt, noNeed}
 use Rattle.route.specs.passes.Search.{pick, searchFrom, spent, tally, triesFrom}
-use Rattle.route.specs.passes.Partial.{routedFrom}
-use Rattle.route.proofs.Steps.{pick-step, pick-end, not-given, not-found, is-found, search-start, search-end, no-entry-left}
+use Rattle.route.specs.passes.Partial.{withEntry, routedFrom}
+use Rattle.route.proofs.Steps.{pick-step, pick-end, found-none, not-given, not-found, is-found, search-start, search-end, no-entry-left}
 
 -- ---- the tries of one entry: it may not be given, the other needs find nothing, or they find their entries
 module _ (at : ℕ) (b : Bool) (here later : ℕ) where
@@ -29,20 +29,12 @@ module _ (at : ℕ) (b : Bool) (here later : ℕ) where
     room-spent (some w) = rw given (omega arith)
 
     all-spent : (found : Option (List ℕ)) (r : Routed) → r ≡ routedFrom at found → r .found ≡ false → spent b found here later ≡ suc here + later
-    unfolding routedFrom
-    all-spent none r q f = rw given refl
-    all-spent (some w) r q f = absurd (true≢false (sym (ap (λ (x : Routed). x .found) q) ∙ f))
+    all-spent found r q f = rw (given, found-none at found r q f) refl
 
     last-spent : (found : Option (List ℕ)) (r : Routed) → r ≡ routedFrom at found → r .found ≡ true → spent b found here later ≡ suc here
     unfolding routedFrom
     last-spent none r q f = absurd (true≢false (sym f ∙ ap (λ (x : Routed). x .found) q))
     last-spent (some w) r q f = rw given refl
-
--- an answer that finds nothing says that there is nothing
-found-none : (at : ℕ) (o : Option (List ℕ)) (r : Routed) → r ≡ routedFrom at o → r .found ≡ false → o ≡ none
-unfolding routedFrom
-found-none at none r q f = refl
-found-none at (some w) r q f = absurd (true≢false (sym (ap (λ (x : Routed). x .found) q) ∙ f))
 
 -- ---- the entries of the need at `at`, in the state s
 module _ {S : Type 0} (ok : S → Need → ℕ → Bool) (next : S → Need → ℕ → S) (size : ℕ) (s : S) (needs : List Need) (n at : ℕ) where
@@ -130,10 +122,10 @@ module _ {S : Type 0} (ok : S → Need → ℕ → Bool) (next : S → Need → 
           omega (arith, tries-step, counted, all-spent (at + 1) (okOf e) (afterOf e) (tallyOf (e + 1)) given (restOf e) (r .way) found f),
         )
 
-        pub found-stops : r .way .found ≡ true → _≡_ {A = Routed} (record { found = true; entries = set (r .way .entries) at e }) (routedFrom at foundOf)
+        pub found-stops : r .way .found ≡ true → withEntry (r .way) at e ≡ routedFrom at foundOf
         found-stops f =
-            is-found at (okOf e) e (pickOf (e + 1)) (restOf e) (r .way) given found f
-            ∙ ap (routedFrom at) (sym (left .0 ∙ pick-step okOf restOf size e low))
+            rw f (is-found at (okOf e) e (pickOf (e + 1)) (restOf e) (r .way) given found f
+            ∙ ap (routedFrom at) (sym (left .0 ∙ pick-step okOf restOf size e low)))
 
         pub found-stops-tries : r .way .found ≡ true → past + 1 + r .tries ≡ countOf
         found-stops-tries f = omega (arith, tries-step, counted, last-spent (at + 1) (okOf e) (afterOf e) (tallyOf (e + 1)) given (restOf e) (r .way) found f)

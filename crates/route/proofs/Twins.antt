@@ -3,12 +3,12 @@
 -- nothing is found the tries are a sum over all entries. Assumes nothing.
 use Prim.Native.Nat.{ℕ, zero, suc, _+_, _<_, _≤_}
 use mathlib.Core.Path.{_≡_, refl, sym, ap, _∙_}
-use mathlib.Core.Bool.{Bool, true, false, cond, not}
+use mathlib.Core.Bool.{Bool, true, false, cond, true≢false}
 use mathlib.Core.List.{List, [], _∷_}
 use mathlib.Core.Option.{Option, none, some}
 use native.Mathlib.Nat.{zero-add}
 use native.Mathlib.Omega.{arith}
-use lib.ListN.{length, getD, set, length-set}
+use lib.ListN.{length, getD, length-set}
 use lib.Dec.{eqb}
 use lib.Seq.{getD-set-same, getD-set-other}
 use borrow.Author.Tests.{eqb-true, eqb-false, eq-eqb, ne-eqb}
@@ -16,7 +16,7 @@ use Rattle.sheet.specs.Lists.{Every, anyb}
 use Rattle.sheet.proofs.Laws.{by-test, or-parts}
 use Rattle.route.specs.declared.Need.{Need}
 use Rattle.route.specs.Table.{Table, serves}
-use Rattle.route.specs.passes.Search.{attempt, pick, searchFrom, spent, tally, triesFrom, holder, mayHave, heldBy, differFor}
+use Rattle.route.specs.passes.Search.{attempt, pick, searchFrom, tally, triesFrom, holder, mayHave, heldBy, differFor}
 
 -- ---- two numbers in each other's place
 module _ (a b : ℕ) where
@@ -117,7 +117,7 @@ Nothing ok rest k e = (x : ℕ) → e ≤ x → x < e + k → ok x ≡ true → 
 attempt-none : (b : Bool) (found : Option (List ℕ)) (e : ℕ) (other : Option (List ℕ)) → attempt b found e other ≡ none → (b ≡ true → found ≡ none) × (other ≡ none)
 attempt-none true (some w) e other h = let z : _≡_ {A = ℕ} 0 1 = cc in absurd (omega arith)
 attempt-none true none e other h = (λ q. refl, h)
-attempt-none false found e other h = (λ q. let z : _≡_ {A = ℕ} 0 1 = cc in absurd (omega arith), h)
+attempt-none false found e other h = (λ q. absurd (true≢false (sym q)), h)
 
 module _ (ok : ℕ → Bool) (rest : ℕ → Option (List ℕ)) where
   pick-nothing : (k e : ℕ) → pick ok rest k e ≡ none → Nothing ok rest k e
@@ -231,11 +231,8 @@ module _ (t : Table) (a b : ℕ) where
         (alike : anyb (differFor t a b) ns ≡ false) where
       served-both : (m : Need) → differFor t a b m ≡ false → serves t a (m .role) ≡ serves t b (m .role)
       served-both m q =
-          by-test (serves t a (m .role)) (λ p. by-test (serves t b (m .role)) (λ r. p ∙ sym r) (λ r. absurd-bool (rw (p, r) at q)))
+          by-test (serves t a (m .role)) (λ p. by-test (serves t b (m .role)) (λ r. p ∙ sym r) (λ r. absurd (true≢false (rw (p, r) at q))))
           (λ p. p ∙ sym (rw p at q))
-        where
-          absurd-bool : {G : Type 0} → true ≡ false → G
-          absurd-bool z = let y : _≡_ {A = ℕ} 0 1 = cc in absurd (omega arith)
 
       served-so : (m : Need) → differFor t a b m ≡ false → ServedSo m
       served-so m q =

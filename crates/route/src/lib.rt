@@ -10,7 +10,7 @@ ghost use Rattle.route.specs.Tries.{tries};
 ghost use Rattle.route.specs.passes.Search.{searchFrom, triesFrom, holder, mayHave, heldBy, servesOther, differFor, kindOf, failsLike};
 ghost use Rattle.sheet.specs.Lists.{anyb};
 ghost use Rattle.route.specs.Route.{byteFor, eightBytes, labRouteOf};
-ghost use Rattle.route.specs.passes.Partial.{routedFrom, routedOf};
+ghost use Rattle.route.specs.passes.Partial.{noEntries, withEntry, routedFrom, routedOf};
 
 // What a register asks of its LAB: an entry of this role for this signal.
 pub struct Need {
@@ -249,6 +249,29 @@ fn failed_like(
     ENTRIES
 }
 
+// No need has an entry, which is a way where there are no needs.
+fn no_entries(is_way: bool) -> Routed
+    ensures { λ r. ⌜ r ≡ noEntries «is_way» ⌝ }
+{
+    Routed {
+        found: is_way,
+        entries: [255u8; 8],
+    }
+}
+
+// What was found for the needs after `at`, and entry e for this one.
+fn with_entry(rest: Routed, at: usize, e: usize) -> Routed
+    requires { ⌜ (at < 8) × (e < ENTRIES) ⌝ }
+    ensures { λ r. ⌜ r ≡ withEntry rest at e ⌝ }
+{
+    let mut entries = rest.entries;
+    entries[at] = e as u8;
+    Routed {
+        found: rest.found,
+        entries,
+    }
+}
+
 // The earliest way for the needs from `at` to n that gives no entry held by another net, and the tries. The needs that remain are one fewer at each call.
 // Where an entry has failed, another that is like it to the needs after this one fails after as many tries, and is not searched.
 fn place(
@@ -263,10 +286,7 @@ fn place(
     ensures counted { λ r. ⌜ r .tries ≡ triesFrom (mayHave table) heldBy ENTRIES held (slice at n needs) ⌝ }
 {
     if at == n {
-        let way = Routed {
-            found: true,
-            entries: [255u8; 8],
-        };
+        let way = no_entries(true);
         return WaySearch { way, tries: 0 };
     }
     let need = needs[at];
@@ -291,12 +311,7 @@ fn place(
             tries = tries + 1 + r.tries;
             let rest = r.way;
             if rest.found {
-                let mut entries = rest.entries;
-                entries[at] = e as u8;
-                let way = Routed {
-                    found: true,
-                    entries,
-                };
+                let way = with_entry(rest, at, e);
                 return WaySearch { way, tries };
             }
             noted[e] = kind_of(table, needs, n, at, held, e);
@@ -305,10 +320,7 @@ fn place(
         }
         e += 1;
     }
-    let way = Routed {
-        found: false,
-        entries: [255u8; 8],
-    };
+    let way = no_entries(false);
     WaySearch { way, tries }
 }
 

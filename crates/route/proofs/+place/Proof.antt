@@ -17,6 +17,8 @@ use Rattle.route.proofs.Limit.{slice-limit}
 use Rattle.route.proofs.place.Reads as place
 use Rattle.route.proofs.place.Kinds as place-kinds
 use Rattle.route.proofs.+place.Lts-place as place-lts
+use Rattle.route.proofs.no_entries.Reads as no-entries-reads
+use Rattle.route.proofs.with_entry.Reads as with-entry-reads
 use Rattle.route.proofs.holder.Reads as holder-reads
 use Rattle.route.proofs.may_have.Reads as may-have-reads
 use Rattle.route.proofs.failed_like.Reads as failed-like-reads
@@ -41,15 +43,16 @@ abbrev μ-loop : place-lts.MeasureT-loop
 μ-loop table n at held needs need mine tries₀ failed₀ noted₀ made₀ e₀ tries failed noted made e = ENTRIES - e
 
 pub +place-spec : {M : Type 1} → statement M
-+place-spec = close μ-place λ t. place-lts.spec (holder-reads.Asked, holder-reads.Learnt, may-have-reads.Asked, may-have-reads.Learnt, failed-like-reads.Asked, failed-like-reads.Learnt, place-below t, place.Post, kind-of-reads.Asked, kind-of-reads.Learnt)
++place-spec = close μ-place λ t. place-lts.spec (no-entries-reads.Asked, no-entries-reads.Learnt, holder-reads.Asked, holder-reads.Learnt, may-have-reads.Asked, may-have-reads.Learnt, failed-like-reads.Asked, failed-like-reads.Learnt, place-below t, place.Post, with-entry-reads.Asked, with-entry-reads.Learnt, kind-of-reads.Asked, kind-of-reads.Learnt)
     (place-at t)
     place.Post
     Inv-loop
     μ-loop
+    (λ c κs. search needs)  -- no-entries-requires
     (λ c.
-    let a = c .before .args in (
-      no-need (mayHave (a .table)) heldBy ENTRIES (a .held) (a .t2) (a .n) (a .at) (c .if1 .taken),
-      no-need-tries (mayHave (a .table)) heldBy ENTRIES (a .held) (a .t2) (a .n) (a .at) (c .if1 .taken),
+    let a = c .before .before .args in (
+      c .no-entries .ensures ∙ no-need (mayHave (a .table)) heldBy ENTRIES (a .held) (a .t2) (a .n) (a .at) (c .before .if1 .taken),
+      no-need-tries (mayHave (a .table)) heldBy ENTRIES (a .held) (a .t2) (a .n) (a .at) (c .before .if1 .taken),
     ))  -- returns
     (λ c. search needs)  -- mul-need
     (λ c. search needs)  -- array-copy-out-need
@@ -136,8 +139,7 @@ pub +place-spec : {M : Type 1} → statement M
           (p .place .result) given (rw (h .holder .ensures) at (p .place .ensures .0)) (rw (h .holder .ensures) at (p .place .ensures .1)),
       slice-limit (a .table) (a .held) (a .t2) (a .at) (a .n) (omega arith),
     ))  -- add-tries-4
-    (λ c. search needs)  -- cast-entries
-    (λ c. search needs)  -- array-write-entries
+    (λ c κs. omega arith)  -- with-entry-requires
     (λ c.
     let p = c .before .before .before .before in
     let o = p .before .before .before .before in
@@ -145,7 +147,7 @@ pub +place-spec : {M : Type 1} → statement M
     let h = l .before in
     let a = l .before .before .before .before .args in
     let given = sym (o .may-have .ensures) ∙ p .before .before .before .if2 .taken in (
-      found-stops (mayHave (a .table)) heldBy ENTRIES (a .held) (a .t2) (a .n) (a .at) (l .loop .tries) (l .loop .e) (l .loop .inv .1) (omega arith)
+      c .with-entry .ensures ∙ found-stops (mayHave (a .table)) heldBy ENTRIES (a .held) (a .t2) (a .n) (a .at) (l .loop .tries) (l .loop .e) (l .loop .inv .1) (omega arith)
           (p .place .result) given (rw (h .holder .ensures) at (p .place .ensures .0)) (rw (h .holder .ensures) at (p .place .ensures .1)) (c .before .if4 .taken),
       found-stops-tries (mayHave (a .table)) heldBy ENTRIES (a .held) (a .t2) (a .n) (a .at) (l .loop .tries) (l .loop .e) (l .loop .inv .1) (omega arith)
           (p .place .result) given (rw (h .holder .ensures) at (p .place .ensures .0)) (rw (h .holder .ensures) at (p .place .ensures .1)) (c .before .if4 .taken),
@@ -175,9 +177,10 @@ pub +place-spec : {M : Type 1} → statement M
       rw (w .1) (not-given-goes (mayHave (a .table)) heldBy ENTRIES (a .held) (a .t2) (a .n) (a .at) (l .loop .tries) (l .loop .e) (l .loop .inv .1) (omega arith) (sym (o .may-have .ensures) ∙ w .0 .left)),
       rw (w .3, w .4) (l .loop .inv .2),
     )) (c .if2 .came))  -- loop-again-2
+    (λ c κs. search needs)  -- no-entries-requires-2
     (λ c.
-    let l = c .before in
+    let l = c .before .before in
     let a = l .before .before .before .before .args in (
-      turn-ends (mayHave (a .table)) heldBy ENTRIES (a .held) (a .t2) (a .n) (a .at) (l .loop .tries) (l .loop .e) (l .loop .inv .1) (c .loop-test .left),
-      turn-ends-tries (mayHave (a .table)) heldBy ENTRIES (a .held) (a .t2) (a .n) (a .at) (l .loop .tries) (l .loop .e) (l .loop .inv .1) (c .loop-test .left),
+      c .no-entries2 .ensures ∙ turn-ends (mayHave (a .table)) heldBy ENTRIES (a .held) (a .t2) (a .n) (a .at) (l .loop .tries) (l .loop .e) (l .loop .inv .1) (c .before .loop-test .left),
+      turn-ends-tries (mayHave (a .table)) heldBy ENTRIES (a .held) (a .t2) (a .n) (a .at) (l .loop .tries) (l .loop .e) (l .loop .inv .1) (c .before .loop-test .left),
     ))  -- returns-3
