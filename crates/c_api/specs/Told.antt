@@ -9,7 +9,7 @@ use Rattle.reader.specs.declared.ExerciseStep.{ExerciseStep}
 use Rattle.reader.specs.declared.ExerciseStep.the-variants as Cell
 use Rattle.reader.specs.declared.AnswerStep.{AnswerStep}
 use Rattle.reader.specs.declared.AnswerStep.the-variants as Where
-use Rattle.judge.specs.declared.Verdict.{Verdict}
+use Rattle.verdict.specs.declared.Verdict.{Verdict}
 
 -- number, cell, LAB, apprentice, and where the culprit stands: 0 for the exercise or 1 for the answer, its first byte, its length
 abbrev pub sevenNumbers : Verdict → List ℕ

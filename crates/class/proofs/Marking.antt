@@ -17,8 +17,9 @@ use Rattle.route.specs.Table.{Table, eightRows}
 use Rattle.settings.specs.Settings.{tableOf}
 use Rattle.judge.specs.declared.Prepared.{Prepared}
 use Rattle.judge.specs.Call.{call}
-use Rattle.judge.specs.declared.Finding.{Finding}
-use Rattle.judge.specs.Judge.{judged, verdictOf, numbersOf, apprenticeOf}
+use Rattle.verdict.specs.declared.Finding.{Finding}
+use Rattle.judge.specs.Judge.{judged}
+use Rattle.verdict.specs.Verdicts.{verdictOf, numbersOf, apprenticeOf}
 use Rattle.judge.specs.passes.Preparing.{preparedFor, driversFor, foundFrom}
 use Rattle.judge.proofs.Preparing.{prepared-serves}
 use Rattle.class.specs.declared.Marked.{Marked}

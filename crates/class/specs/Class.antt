@@ -10,7 +10,8 @@ use Rattle.sheet.specs.Bytes.{u16At, partAt}
 use Rattle.sheet.specs.Header.{wrongMark, wrongVersion}
 use Rattle.sheet.specs.Checks.{Check, check, firstNumber}
 use Rattle.judge.specs.Call.{call}
-use Rattle.judge.specs.Judge.{judged, numbersOf}
+use Rattle.judge.specs.Judge.{judged}
+use Rattle.verdict.specs.Verdicts.{numbersOf}
 use Rattle.class.specs.declared.Marked.{Marked}
 
 -- ---- the sheet: "`LXC`, version 1 and count, 16 bits each, count at most 32, then each answer after its own 16-bit length"

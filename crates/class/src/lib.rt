@@ -123,10 +123,10 @@ fn row_of(
     ensures { λ r. ⌜ r ≡ rowFrom table prepared (now (drivers .entry)) (now (exercise .entry)) (now (answer .entry)) ⌝ }
 {
     let f = judge::judge_prepared(table, prepared, exercise, drivers, answer);
-    let number = judge::wide8(f.number);
-    let cell = judge::wide16(f.cell);
-    let lab = judge::wide16(f.lab);
-    let apprentice = judge::apprentice_for(answer, f.number);
+    let number = verdict::wide8(f.number);
+    let cell = verdict::wide16(f.cell);
+    let lab = verdict::wide16(f.lab);
+    let apprentice = verdict::apprentice_for(answer, f.number);
     [number, cell, lab, apprentice]
 }
 

@@ -11,8 +11,9 @@ use Rattle.sheet.specs.Lists.{Every, concatMap, from, below, firstFrom}
 use Rattle.sheet.specs.Checks as sheet
 use Rattle.sheet.proofs.Laws.{by-test}
 use Rattle.sheet.specs.Checks.{NONE}
-use Rattle.judge.specs.declared.Finding.{Finding}
-use Rattle.judge.specs.Judge.{Check, finding, legal, ofSheet, ofCell, ofLab, perCell, firstBroken}
+use Rattle.verdict.specs.declared.Finding.{Finding}
+use Rattle.judge.specs.Judge.{Check, ofSheet, ofCell, ofLab, perCell, firstBroken}
+use Rattle.verdict.specs.Verdicts.{finding, legal}
 use Rattle.judge.specs.Demands.{AllHold}
 
 -- no number is 0

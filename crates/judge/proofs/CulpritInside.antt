@@ -26,15 +26,16 @@ use Rattle.lab_rules.specs.Rules as rules
 use Rattle.tables.specs.Records.{cell, malformed, doubleDriver}
 use Rattle.netlist.specs.Cells.{checksOf, cellChecks}
 use Rattle.placing.specs.Places.{labAt, outOfRangeAt, placeTaken}
-use Rattle.lab_pass.specs.Members.{members}
+use Rattle.placing.specs.Members.{members}
 use Rattle.sheet.specs.Checks.{NONE}
-use Rattle.judge.specs.declared.Fault.{Fault}
-use Rattle.judge.specs.declared.Fault.the-variants as fault
-use Rattle.judge.specs.declared.Fault.the-variants.{ExerciseHead, AnswerHead, Place, Lab}
-use Rattle.judge.specs.declared.Finding.{Finding}
-use Rattle.judge.specs.Numbers.{faultOf}
+use Rattle.verdict.specs.declared.Fault.{Fault}
+use Rattle.verdict.specs.declared.Fault.the-variants as fault
+use Rattle.verdict.specs.declared.Fault.the-variants.{ExerciseHead, AnswerHead, Place, Lab}
+use Rattle.verdict.specs.declared.Finding.{Finding}
+use Rattle.verdict.specs.Numbers.{faultOf}
 use Rattle.judge.specs.Call.{Call, inForce}
-use Rattle.judge.specs.Judge.{Check, finding, legal, ofCell, ofLab, perCell, carryNotNext, labCells, roomChecks, settingsGroup, exerciseGroup, answerGroup, cellGroup, placeGroup, labGroup, sheetChecks, checksTo51, checks, firstBroken, firstOr, lowestIn, culpritAt, culpritOf, verdictOf, judged}
+use Rattle.judge.specs.Judge.{Check, ofCell, ofLab, perCell, carryNotNext, labCells, roomChecks, settingsGroup, exerciseGroup, answerGroup, cellGroup, placeGroup, labGroup, sheetChecks, checksTo51, checks, firstBroken, judged}
+use Rattle.verdict.specs.Verdicts.{finding, legal, firstOr, lowestIn, culpritAt, culpritOf, verdictOf}
 use Rattle.judge.specs.Demands.{AllHold, LowestCell}
 use Rattle.judge.specs.Culprit.{Inside, CulpritLaw}
 use Rattle.judge.proofs.Broken.{found, run-finds}

@@ -5,9 +5,10 @@ use mathlib.Core.Path.{_≡_, refl}
 use mathlib.Core.Bool.{true}
 use borrow.Author.Tests.{ne-eqb}
 use Rattle.sheet.specs.Lists.{elemb}
-use Rattle.judge.specs.Numbers.{refusalNumbers}
+use Rattle.verdict.specs.Numbers.{refusalNumbers}
 use Rattle.judge.specs.Call.{Call}
-use Rattle.judge.specs.Judge.{apprenticeOf, checks, judged, routed, tried, verdictOf}
+use Rattle.judge.specs.Judge.{checks, judged, routed, tried}
+use Rattle.verdict.specs.Verdicts.{apprenticeOf, verdictOf}
 use Rattle.judge.specs.Demands.{Demand1, numbers}
 use Rattle.judge.proofs.Broken.{found}
 use Rattle.judge.proofs.Numbers.{In, all-give, every-weaker, all-known}

@@ -3,8 +3,9 @@ use mathlib.Core.Path.{_≡_, refl, ap, _∙_}
 use mathlib.Core.Logic.{_⊎_, inl, inr, ⊎-elim}
 use mathlib.Core.List.{List, [], _∷_}
 use Rattle.sheet.proofs.Laws.{by-test}
-use Rattle.judge.specs.declared.Finding.{Finding}
-use Rattle.judge.specs.Judge.{Check, checks, firstBroken, judged, verdictOf}
+use Rattle.verdict.specs.declared.Finding.{Finding}
+use Rattle.judge.specs.Judge.{Check, checks, firstBroken, judged}
+use Rattle.verdict.specs.Verdicts.{verdictOf}
 use Rattle.judge.specs.Demands.{AllHold, FirstBroken, Demand2}
 use Rattle.judge.proofs.Broken.{skip-held, hold-legal, legal-hold}
 use Rattle.judge.proofs.Numbers.{all-numbered}

@@ -5,9 +5,9 @@ use mathlib.Core.Bool.{true}
 use mathlib.Core.List.{List, [], _∷_, map}
 use lib.ListN.{length, replicate}
 use Rattle.sheet.specs.Lists.{elemb}
-use Rattle.judge.specs.declared.Fault.{Fault}
-use Rattle.judge.specs.declared.Fault.the-variants.{Call, ExerciseHead, Record, AnswerHead, Place, Lab}
-use Rattle.judge.specs.Numbers.{faultOf}
+use Rattle.verdict.specs.declared.Fault.{Fault}
+use Rattle.verdict.specs.declared.Fault.the-variants.{Call, ExerciseHead, Record, AnswerHead, Place, Lab}
+use Rattle.verdict.specs.Numbers.{faultOf}
 use Rattle.judge.proofs.Numbers.{all-give}
 
 -- all numbers of a list have the fault k

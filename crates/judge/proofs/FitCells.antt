@@ -23,7 +23,7 @@ use Rattle.lab_rules.specs.passes.Counts.{Fit, AllFit}
 use Rattle.tables.specs.Records.{cell, allInputs}
 use Rattle.netlist.specs.Cells.{registerChecks, cellChecks}
 use Rattle.placing.specs.Places.{labAt}
-use Rattle.lab_pass.specs.Members.{members}
+use Rattle.placing.specs.Members.{members}
 use Rattle.judge.specs.Call.{Call}
 use Rattle.judge.specs.Judge.{labCells}
 use Rattle.judge.proofs.Broken.{held-number}

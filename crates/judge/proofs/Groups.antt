@@ -16,10 +16,11 @@ use Rattle.tables.specs.Records.{cellNumbers, malformed, doubleDriver}
 use Rattle.netlist.specs.Cells.{cellChecks, cellNumber}
 use Rattle.placing.specs.Places.{outOfRangeAt, placeTaken}
 use Rattle.sheet.specs.Checks.{NONE}
-use Rattle.judge.specs.declared.Finding.{Finding}
-use Rattle.judge.specs.Judge.{Check, finding, check, ofSheet, perCell, carryNotNext, roomChecks, settingsGroup, exerciseGroup, answerGroup, cellGroup, placeGroup, sheetChecks, checksTo51, firstBroken}
+use Rattle.verdict.specs.declared.Finding.{Finding}
+use Rattle.judge.specs.Judge.{Check, check, ofSheet, perCell, carryNotNext, roomChecks, settingsGroup, exerciseGroup, answerGroup, cellGroup, placeGroup, sheetChecks, checksTo51, firstBroken}
+use Rattle.verdict.specs.Verdicts.{finding}
 use Rattle.judge.specs.Call.{Call}
-use Rattle.judge.specs.Numbers.{numbersTo51}
+use Rattle.verdict.specs.Numbers.{numbersTo51}
 use Rattle.judge.specs.passes.Stages.{numberedAs, numbered, atCell}
 use Rattle.judge.specs.passes.Preparing.{then}
 use borrow.Author.Needs.{needs}

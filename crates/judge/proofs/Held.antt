@@ -11,7 +11,8 @@ use Rattle.sheet.specs.Lists.{concatMap, from, below}
 use Rattle.sheet.specs.Checks as sheet
 use Rattle.lab_rules.specs.Rules.{labChecks}
 use Rattle.judge.specs.Call.{Call, inForce}
-use Rattle.judge.specs.Judge.{Check, perCell, ofCell, ofLab, labCells, roomChecks, settingsGroup, exerciseGroup, answerGroup, cellGroup, placeGroup, labGroup, sheetChecks, checksTo51, checks, verdictOf, judged}
+use Rattle.judge.specs.Judge.{Check, perCell, ofCell, ofLab, labCells, roomChecks, settingsGroup, exerciseGroup, answerGroup, cellGroup, placeGroup, labGroup, sheetChecks, checksTo51, checks, judged}
+use Rattle.verdict.specs.Verdicts.{verdictOf}
 use Rattle.judge.specs.Demands.{AllHold}
 use Rattle.judge.proofs.Broken as broken
 use Rattle.judge.proofs.Broken.{hold-append}

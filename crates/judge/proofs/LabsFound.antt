@@ -22,7 +22,7 @@ use Rattle.lab_rules.specs.declared.LabSearch.{LabSearch}
 use Rattle.lab_rules.proofs.Served.{same-result, same-tries}
 use Rattle.tables.specs.Records.{cell}
 use Rattle.placing.specs.Places.{labAt}
-use Rattle.lab_pass.specs.Members.{members}
+use Rattle.placing.specs.Members.{members}
 use Rattle.lab_pass.specs.passes.Results.{searchOf, searchAt, resultAt, triesAt, hasCells, putRows}
 use Rattle.lab_pass.proofs.Linked.{walk-members}
 use Rattle.lab_pass.proofs.Labs.{result-is-lab, tries-is-lab}
@@ -30,7 +30,8 @@ use Rattle.lab_pass.proofs.Passing.{none-in}
 use Rattle.lab_pass.proofs.Rows.{rows-put, bytes-eight}
 use Rattle.sheet.specs.Checks.{NONE}
 use Rattle.judge.specs.Call.{Call, inForce}
-use Rattle.judge.specs.Judge.{finding, labCells, labGroup, routeBytes, firstBroken}
+use Rattle.judge.specs.Judge.{labCells, labGroup, routeBytes, firstBroken}
+use Rattle.verdict.specs.Verdicts.{finding}
 use Rattle.judge.specs.passes.Stages.{numberedAs, numberedLab}
 use Rattle.judge.specs.passes.Preparing.{linked}
 use Rattle.judge.proofs.Broken.{labs-find}

@@ -3,13 +3,14 @@ use Prim.Native.Nat.{ℕ}
 use mathlib.Core.Path.{_≡_, ap}
 use mathlib.Core.List.{List}
 use Rattle.exercise.specs.Exercise.{cellCount}
-use Rattle.judge.specs.declared.Fault.{Fault}
-use Rattle.judge.specs.declared.Fault.the-variants as fault
-use Rattle.judge.specs.declared.Fault.the-variants.{ExerciseHead, Record, AnswerHead, Place, Lab}
-use Rattle.judge.specs.declared.Finding.{Finding}
-use Rattle.judge.specs.Numbers.{faultOf}
+use Rattle.verdict.specs.declared.Fault.{Fault}
+use Rattle.verdict.specs.declared.Fault.the-variants as fault
+use Rattle.verdict.specs.declared.Fault.the-variants.{ExerciseHead, Record, AnswerHead, Place, Lab}
+use Rattle.verdict.specs.declared.Finding.{Finding}
+use Rattle.verdict.specs.Numbers.{faultOf}
 use Rattle.judge.specs.Call.{Call}
-use Rattle.judge.specs.Judge.{checks, firstBroken, lowestIn, culpritAt, culpritOf, verdictOf, judged}
+use Rattle.judge.specs.Judge.{checks, firstBroken, judged}
+use Rattle.verdict.specs.Verdicts.{lowestIn, culpritAt, culpritOf, verdictOf}
 use Rattle.judge.specs.Demands.{NamesCulprit}
 use Rattle.judge.proofs.Faults as faults
 use Rattle.judge.proofs.Faults.{fault-in}

@@ -7,7 +7,7 @@ use borrow.Author.Tests.{ltb-true, eqb-true, eqb-false, not-true, not-false}
 use Rattle.sheet.specs.Lists.{firstFrom}
 use Rattle.sheet.proofs.Laws.{by-test}
 use Rattle.sheet.proofs.First.{first-below, none-below, some-below}
-use Rattle.judge.specs.declared.Finding.{Finding}
+use Rattle.verdict.specs.declared.Finding.{Finding}
 use Rattle.judge.specs.passes.Stages.{numberedAs}
 
 module _ (found : ℕ → ℕ → Finding) where

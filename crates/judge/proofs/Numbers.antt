@@ -18,7 +18,7 @@ use Rattle.tables.specs.Records.{cell, cellNumbers}
 use Rattle.netlist.specs.Cells.{checksOf, cellChecks}
 use Rattle.judge.specs.Call.{Call, inForce}
 use Rattle.judge.specs.Judge.{Check, cellCheck, perCell, ofSheet, ofCell, ofLab, labCells, roomChecks, settingsGroup, exerciseGroup, answerGroup, cellGroup, placeGroup, labGroup, sheetChecks, checksTo51, checks, firstBroken}
-use Rattle.judge.specs.Numbers.{numbersTo51, labNumbers, refusalNumbers}
+use Rattle.verdict.specs.Numbers.{numbersTo51, labNumbers, refusalNumbers}
 use Rattle.judge.specs.Demands.{AllHold}
 use Rattle.judge.proofs.Broken.{Numbered, NumberedIn}
 

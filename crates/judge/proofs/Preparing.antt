@@ -30,12 +30,13 @@ use Rattle.lab_pass.specs.declared.LowestBroken.{LowestBroken}
 use Rattle.lab_pass.proofs.Passing.{lowest-lab, lowest-number}
 use Rattle.lab_pass.proofs.Rows.{rows-long}
 use Rattle.lab_pass.proofs.Tried.{filled-long}
-use Rattle.judge.specs.declared.Finding.{Finding}
+use Rattle.verdict.specs.declared.Finding.{Finding}
 use Rattle.judge.specs.declared.Prepared.{Prepared}
-use Rattle.judge.specs.declared.Verdict.{Verdict}
+use Rattle.verdict.specs.declared.Verdict.{Verdict}
 use Rattle.judge.specs.Call.{Call, call}
-use Rattle.judge.specs.Judge.{finding, legal, roomChecks, settingsGroup, exerciseGroup, answerGroup, cellGroup, placeGroup, labGroup, checksTo51, checks, labCells, firstBroken, verdictOf, judged, routeBytes, routed, triesOf, tried}
-use Rattle.judge.specs.Numbers.{numbersTo51, searchedNumbers}
+use Rattle.judge.specs.Judge.{roomChecks, settingsGroup, exerciseGroup, answerGroup, cellGroup, placeGroup, labGroup, checksTo51, checks, labCells, firstBroken, judged, routeBytes, routed, triesOf, tried}
+use Rattle.verdict.specs.Verdicts.{finding, legal, verdictOf}
+use Rattle.verdict.specs.Numbers.{numbersTo51, searchedNumbers}
 use Rattle.judge.specs.passes.Stages.{numberedAs, numbered, numberedLab, placedBy}
 use Rattle.judge.specs.passes.Preparing.{then, earlyIn, preparedFor, driversFor, foundTo51, linked, foundInLabs, rowsOfLabs, triesOfLabs, foundFrom}
 use Rattle.judge.proofs.Broken.{first-append, found}
@@ -234,11 +235,17 @@ pub ruleset found-steps = (found-stays, found-goes)
 
 module _ (t : Table) (e a : List ℕ) (f : Finding) (x : f ≡ foundInLabs t e a) where
   pub labs-handed : (rows counts : List ℕ) → rows ≡ rowsOfLabs t e a blank → counts ≡ triesOfLabs t e a zeros
-      → (route after : List ℕ) → after ≡ cond (eqb (f .number) 0) rows route
-      → (list tries : List ℕ) → tries ≡ cond (elemb (f .number) searchedNumbers) counts list
+      → (route after : List ℕ) → length route ≡ 8192 → after ≡ cond (eqb (length rows) (length route)) (cond (eqb (f .number) 0) rows route) route
+      → (list tries : List ℕ) → length list ≡ 1024 → tries ≡ cond (eqb (length counts) (length list)) (cond (elemb (f .number) searchedNumbers) counts list) list
       → (f ≡ foundInLabs t e a) × ((after ≡ cond (eqb (f .number) 0) (rowsOfLabs t e a blank) route)
       × (tries ≡ cond (elemb (f .number) searchedNumbers) (triesOfLabs t e a zeros) list))
-  labs-handed rows counts w k route after p list tries q = (x, (p ∙ rw w, q ∙ rw k))
+  labs-handed rows counts w k route after room p list tries slots q = (
+    x,
+    (
+      p ∙ rw (eq-eqb (length rows) (length route) (sym (rows-size t e a rows w) ∙ sym room), w),
+      q ∙ rw (eq-eqb (length counts) (length list) (sym (tries-size t e a counts k) ∙ sym slots), k),
+    ),
+  )
 
 -- ---- what was prepared serves: with a route buffer and a list of tries of the right size, what is found from it is what the first broken check finds
 module _ (s e a : List ℕ) (r n : ℕ) (room : r ≡ 8192) (slots : n ≡ 1024) where

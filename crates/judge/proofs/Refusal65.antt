@@ -23,12 +23,13 @@ use Rattle.lab_rules.specs.Ports.{inLab}
 use Rattle.lab_rules.specs.Rules.{needs, noWay, labRules, labChecks, labNumber}
 use Rattle.lab_rules.proofs.Routes.{stuck, goes, told}
 use Rattle.placing.specs.Places.{labAt}
-use Rattle.lab_pass.specs.Members.{members}
+use Rattle.placing.specs.Members.{members}
 use Rattle.sheet.specs.Checks.{NONE}
-use Rattle.judge.specs.declared.Finding.{Finding}
+use Rattle.verdict.specs.declared.Finding.{Finding}
 use Rattle.judge.specs.Call.{Call, inForce}
-use Rattle.judge.specs.Judge.{Check, finding, ofLab, labCells, occupied, labGroup, checksTo51, checks, firstBroken, judged, verdictOf}
-use Rattle.judge.specs.Numbers.{numbersTo51}
+use Rattle.judge.specs.Judge.{Check, ofLab, labCells, occupied, labGroup, checksTo51, checks, firstBroken, judged}
+use Rattle.verdict.specs.Verdicts.{finding, verdictOf}
+use Rattle.verdict.specs.Numbers.{numbersTo51}
 use Rattle.judge.specs.Demands.{AllHold, FourThings, Keeps60to64, Keeps65, labNeeds}
 use Rattle.judge.proofs.Broken.{NumberedIn, skip-held, breaksOne, labs-find}
 use Rattle.sheet.proofs.First.{before-first, first-is, none-first}

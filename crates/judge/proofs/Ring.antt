@@ -16,7 +16,8 @@ use Rattle.placing.specs.Places.{follows, placeTaken}
 use Rattle.placing.proofs.Places.{no-ring}
 use Rattle.sheet.specs.Checks.{NONE}
 use Rattle.judge.specs.Call.{Call}
-use Rattle.judge.specs.Judge.{finding, perCell, standsApart, carryNotNext, roomChecks, settingsGroup, exerciseGroup, answerGroup, cellGroup, placeGroup, labGroup, sheetChecks, checksTo51, checks, firstBroken, judged, verdictOf}
+use Rattle.judge.specs.Judge.{perCell, standsApart, carryNotNext, roomChecks, settingsGroup, exerciseGroup, answerGroup, cellGroup, placeGroup, labGroup, sheetChecks, checksTo51, checks, firstBroken, judged}
+use Rattle.verdict.specs.Verdicts.{finding, verdictOf}
 use Rattle.judge.specs.Ring.{FedBy, Ring, HoldsTo50, RingLaw}
 use Rattle.judge.proofs.Broken.{first-append, skip-held, run-finds}
 use Rattle.judge.proofs.Numbers.{to-51-numbered}

@@ -25,8 +25,9 @@ use Rattle.tables.proofs.Filled.{reads, readers, drivers}
 use Rattle.netlist.proofs.Carry.{fed-by, number-is}
 use Rattle.placing.specs.Places.{follows}
 use Rattle.placing.specs.passes.Detached.{detachedBy, detachedAt}
-use Rattle.judge.specs.declared.Finding.{Finding}
-use Rattle.judge.specs.Judge.{finding, legal, standsApart, carryNotNext, exerciseGroup, cellGroup, placeGroup, firstBroken}
+use Rattle.verdict.specs.declared.Finding.{Finding}
+use Rattle.judge.specs.Judge.{standsApart, carryNotNext, exerciseGroup, cellGroup, placeGroup, firstBroken}
+use Rattle.verdict.specs.Verdicts.{finding, legal}
 use Rattle.judge.specs.passes.Stages.{numbered, atCell, placedBy}
 use Rattle.sheet.proofs.First.{first-below, none-below}
 use Rattle.judge.proofs.Numbering.{numbered-same}

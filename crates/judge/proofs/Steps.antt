@@ -1,38 +1,33 @@
 -- One law for each way out of a stage: what the calls answered on the way gives what the stage is to find. Assumes nothing.
-use Prim.Native.Nat.{ℕ, suc, _+_, _-_, _≤_, _<_, min}
-use native.Mathlib.Numerals.{add-one}
+use Prim.Native.Nat.{ℕ, _≤_, _<_, min}
 use native.Mathlib.Omega.{arith}
 use mathlib.Core.Path.{_≡_, sym, ap, _∙_}
 use mathlib.Core.Bool.{Bool, true, false, cond, not}
 use mathlib.Core.List.{List, [], _∷_}
-use lib.ListN.{length, getD, replicate}
+use lib.ListN.{length, replicate}
 use lib.Dec.{eqb, ltb}
 use borrow.Author.Tests.{eq-eqb, ne-eqb, lt-ltb, le-ltb}
-use Rattle.sheet.proofs.Scan.{Unmet, unmet-starts, unmet-goes, unmet-stops, unmet-ends}
-use Rattle.sheet.specs.Lists.{filterb, elemb, from, firstFrom}
+use Rattle.sheet.specs.Lists.{firstFrom}
 use Rattle.sheet.specs.Bytes.{beginsAt}
 use Rattle.exercise.specs.Exercise.{netCount, cellCount, exerciseNumber}
-use Rattle.answer.specs.Answer.{answerNumber, placeCount, wrongAnswerLength, placeStart}
+use Rattle.answer.specs.Answer.{answerNumber, placeCount, wrongAnswerLength}
 use Rattle.sheet.proofs.Laws.{by-test}
 use Rattle.tables.specs.Records.{cell, malformed}
 use Rattle.sheet.specs.Checks.{NONE}
 use Rattle.tables.specs.passes.Tables.{malformedAt, doubleFrom}
 use Rattle.netlist.specs.passes.Numbers.{numberBy, numberAt, brokenAt}
-use Rattle.placing.specs.Places.{labAt, outOfRangeAt, placeTaken}
+use Rattle.placing.specs.Places.{outOfRangeAt, placeTaken}
 use Rattle.placing.specs.passes.Detached.{detachedAt}
-use Rattle.lab_pass.specs.Members.{members}
 use Rattle.exercise.specs.passes.Known.{knownAt}
 use Rattle.exercise.specs.declared.Record.{Record}
-use Rattle.judge.specs.declared.Fault.{Fault}
-use Rattle.judge.specs.declared.Finding.{Finding}
-use Rattle.judge.specs.declared.Part.{Part}
-use Rattle.judge.specs.declared.Verdict.{Verdict}
+use Rattle.verdict.specs.declared.Finding.{Finding}
+use Rattle.verdict.specs.declared.Part.{Part}
+use Rattle.verdict.specs.declared.Verdict.{Verdict}
 use Rattle.judge.specs.Call.{call}
-use Rattle.judge.specs.Judge.{finding, legal, ofAnswer, exerciseGroup, answerGroup, firstBroken, firstOr, lowestIn, culpritAt, culpritOf, judged, bytesOf, addressOf, routed, tried}
-use Rattle.judge.specs.Numbers.{faultOf}
+use Rattle.judge.specs.Judge.{exerciseGroup, answerGroup, firstBroken, judged, routed, tried}
+use Rattle.verdict.specs.Verdicts.{finding, legal, bytesOf, addressOf, numbersOf}
 use Rattle.judge.specs.Culprit.{Inside, CulpritLaw}
 use Rattle.judge.specs.passes.Stages.{numberedAs, numbered, placedBy}
-use Rattle.judge.specs.Judge.{numbersOf}
 use Rattle.judge.proofs.Groups.{then-stays, then-goes, exercise-finds, answer-finds}
 use Rattle.judge.proofs.CulpritInside.{culprit-inside}
 use Rattle.tables.proofs.Found.{malformed-first, double-first}
@@ -118,64 +113,6 @@ module _ (drivers e a : List ℕ) (get : ℕ → Record) (cells i : ℕ) (at : i
   place-detached d h s q = rw (← at) (rw (le-ltb i cells h, ← s) q)
 
 pub ruleset place-steps = (place-shared, place-detached)
-
--- ---- the lowest cell of a LAB: none of the cells below i stands there
-pub record Lowest (a : List ℕ) (n l i : ℕ) : Type 0 where
-  pub within : i ≤ n
-  pub same : lowestIn a n l ≡ firstOr NONE (filterb (λ j. eqb (labAt a j) l) (from i (n - i)))
-
-pub lowest-starts : (a : List ℕ) (n l : ℕ) → Lowest a n l 0
-unfolding lowestIn members
-lowest-starts a n l =
-    let all : n - 0 ≡ n = omega arith in
-    record { within = omega arith; same = rw all }
-
-module _ (a : List ℕ) (n l i : ℕ) (s : Lowest a n l i) where
-  pub lowest-goes : (m : ℕ) → i < n → m ≡ labAt a i → (m ≡ l → ⊥) → Lowest a n l (i + 1)
-  lowest-goes m h e d =
-      let more : n - i ≡ suc (n - (i + 1)) = omega arith in
-      record { within = omega arith; same = s .same ∙ rw (more, ne-eqb (labAt a i) l (λ z. d (e ∙ z)), add-one) }
-
-  pub lowest-stops : (m : ℕ) → i < n → m ≡ labAt a i → m ≡ l → i ≡ lowestIn a n l
-  lowest-stops m h e k =
-      let more : n - i ≡ suc (n - (i + 1)) = omega arith in
-      sym (s .same ∙ rw (more, eq-eqb (labAt a i) l (sym e ∙ k)))
-
-  pub lowest-ends : n ≤ i → NONE ≡ lowestIn a n l
-  lowest-ends h =
-      let none : n - i ≡ 0 = omega arith in
-      sym (s .same ∙ rw none)
-
-pub ruleset lowest-steps = (lowest-starts, lowest-goes, lowest-stops, lowest-ends)
-
--- ---- a number in a list: none of those before i is it
-pub among-starts : (n : ℕ) (l : List ℕ) → Unmet (eqb n) l 0
-among-starts n l = unmet-starts (eqb n) l
-
-module _ (n : ℕ) (l : List ℕ) (i : ℕ) (s : Unmet (eqb n) l i) where
-  pub among-goes : i < length l → (getD l i 0 ≡ n → ⊥) → Unmet (eqb n) l (i + 1)
-  among-goes h d = unmet-goes (eqb n) l i s 0 h (ne-eqb n (getD l i 0) (λ q. d (sym q)))
-
-  pub among-stops : i < length l → getD l i 0 ≡ n → true ≡ elemb n l
-  among-stops h e = unmet-stops (eqb n) l i s 0 h (eq-eqb n (getD l i 0) (sym e))
-
-  pub among-ends : length l ≤ i → false ≡ elemb n l
-  among-ends h = unmet-ends (eqb n) l i s h
-
-pub ruleset among-steps = (among-starts, among-goes, among-stops, among-ends)
-
--- ---- the culprit
-pub from-start : (b : Bool) (x y : ℕ) → x ≡ y → _≡_ {A = Part} (record { «of_answer» = b; start = 0; size = x }) (record { «of_answer» = b; start = 0; size = y })
-from-start b x y h = rw h
-
-pub place-lowest : (a : List ℕ) (n c m l : ℕ) {r : Part} → r ≡ ofAnswer (placeStart m) 4 → m ≡ lowestIn a c l → c ≡ n → r ≡ ofAnswer (placeStart (lowestIn a n l)) 4
-place-lowest a n c m l h k q = h ∙ rw (k, q)
-
-pub culprit-is : (e a : List ℕ) (f : Finding) (k m : Fault) {r : Part} → k ≡ faultOf (f .number) → k ≡ m → r ≡ culpritAt e a f m → r ≡ culpritOf e a f
-unfolding culpritOf
-culprit-is e a f k m h q p = p ∙ ap (culpritAt e a f) (sym q ∙ h)
-
-pub ruleset culprit-steps = (from-start, place-lowest, culprit-is)
 
 -- ---- the verdict handed out: the culprit's bytes and where they begin, the route, the tries and the four numbers
 -- a part that lies inside its sheet begins at its start

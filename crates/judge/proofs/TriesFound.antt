@@ -25,10 +25,11 @@ use Rattle.lab_pass.specs.passes.Links.{Links}
 use Rattle.lab_pass.specs.passes.Results.{resultAt, triesAt, brokenLab, lowestBroken, hasCells, putTries, searchedLabs}
 use Rattle.lab_pass.proofs.Passing.{none-in, lowest-lab}
 use Rattle.lab_pass.proofs.Tried.{tries-put}
-use Rattle.judge.specs.declared.Finding.{Finding}
+use Rattle.verdict.specs.declared.Finding.{Finding}
 use Rattle.judge.specs.Call.{Call, inForce}
-use Rattle.judge.specs.Judge.{finding, legal, labCells, labGroup, firstBroken}
-use Rattle.judge.specs.Numbers.{searchedNumbers}
+use Rattle.judge.specs.Judge.{labCells, labGroup, firstBroken}
+use Rattle.verdict.specs.Verdicts.{finding, legal}
+use Rattle.verdict.specs.Numbers.{searchedNumbers}
 use Rattle.judge.specs.passes.Stages.{numberedAs, numberedLab}
 use Rattle.judge.specs.passes.Preparing.{linked}
 use Rattle.judge.proofs.Sound.{Sound}

@@ -23,7 +23,8 @@ use Rattle.lab_rules.specs.Rules.{needs, labRules, labChecks, labNumber, labTri
 use Rattle.lab_rules.proofs.Checks.{rules-held, rules-kept}
 use Rattle.lab_rules.proofs.Needed.{needs-eight}
 use Rattle.judge.specs.Call.{Call, inForce}
-use Rattle.judge.specs.Judge.{checks, checksTo51, labCells, occupied, judged, verdictOf, triesOf, tried}
+use Rattle.judge.specs.Judge.{checks, checksTo51, labCells, occupied, judged, triesOf, tried}
+use Rattle.verdict.specs.Verdicts.{verdictOf}
 use Rattle.judge.specs.Demands.{OneOf, AllHold, labNeeds, Keeps60to64}
 use Rattle.judge.specs.Tried.{TriesTold}
 use Rattle.judge.proofs.Broken.{hold-legal}

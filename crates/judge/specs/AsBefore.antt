@@ -10,9 +10,10 @@ use Rattle.sheet.specs.Lists.{concatMap, below}
 use Rattle.route.specs.Table.{houseBoard}
 use Rattle.settings.specs.House.{houseSettings}
 use Rattle.lab_rules.specs.Rules.{labChecks, routeOf}
-use Rattle.judge.specs.declared.Verdict.{Verdict}
+use Rattle.verdict.specs.declared.Verdict.{Verdict}
 use Rattle.judge.specs.Call.{Call, call}
-use Rattle.judge.specs.Judge.{Check, check, ofLab, labCells, sheetChecks, firstBroken, verdictOf, judged, routed}
+use Rattle.judge.specs.Judge.{Check, check, ofLab, labCells, sheetChecks, firstBroken, judged, routed}
+use Rattle.verdict.specs.Verdicts.{verdictOf}
 
 module _ (e a : List ℕ) (r : ℕ) where
   -- the call with the supplied settings sheet, and a list of tries of the right length

@@ -4,7 +4,7 @@ use Prim.Native.Nat.{ℕ, _+_, _≤_}
 use mathlib.Core.Bool.{cond}
 use mathlib.Core.List.{List}
 use lib.ListN.{length}
-use Rattle.judge.specs.declared.Part.{Part}
+use Rattle.verdict.specs.declared.Part.{Part}
 use Rattle.judge.specs.Call.{Call}
 use Rattle.judge.specs.Judge.{judged}
 

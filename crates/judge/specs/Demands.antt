@@ -15,9 +15,10 @@ use Rattle.route.specs.declared.Need.{Need}
 use Rattle.route.specs.Way.{Way, Earlier}
 use Rattle.route.specs.Route.{byteOfNeed}
 use Rattle.lab_rules.specs.Rules.{needs, labRules}
-use Rattle.judge.specs.declared.Verdict.{Verdict}
+use Rattle.verdict.specs.declared.Verdict.{Verdict}
 use Rattle.judge.specs.Call.{Call, inForce}
-use Rattle.judge.specs.Judge.{Check, checks, checksTo51, ofLab, labCells, occupied, ofExercise, ofAnswer, judged, routed, tried, verdictOf}
+use Rattle.judge.specs.Judge.{Check, checks, checksTo51, ofLab, labCells, occupied, judged, routed, tried}
+use Rattle.verdict.specs.Verdicts.{ofExercise, ofAnswer, verdictOf}
 
 -- the numbers that a judgement can give: document 01's, 70 to 75 of M-102 and 3 of M-106
 abbrev pub numbers : List ℕ

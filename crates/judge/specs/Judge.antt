@@ -3,16 +3,14 @@
 -- `c` is the call; a definition that reads less of it takes what it reads: `s` the settings, `e` the exercise, `a` the answer, `r` the route
 -- buffer's length, `n` that of the list of tries.
 -- Assumes nothing.
-use Prim.Native.Nat.{ℕ, min}
-use mathlib.Core.Bool.{Bool, true, false, cond, not, _&&_}
+use Prim.Native.Nat.{ℕ}
+use mathlib.Core.Bool.{Bool, false, cond, not, _&&_}
 use mathlib.Core.List.{List, [], _∷_, _++_, map}
-use lib.ListN.{length}
 use lib.Dec.{eqb, ltb}
 use Rattle.sheet.specs.Lists.{concatMap, anyb, elemb, below}
 use Rattle.sheet.specs.Checks as sheet
-use Rattle.sheet.specs.Bytes.{partAt, beginsAt}
-use Rattle.exercise.specs.Exercise.{cellCount, exerciseChecks, recordStart}
-use Rattle.answer.specs.Answer.{apprentice, placeCount, answerChecks, wrongAnswerLength, placeStart}
+use Rattle.exercise.specs.Exercise.{cellCount, exerciseChecks}
+use Rattle.answer.specs.Answer.{placeCount, answerChecks, wrongAnswerLength}
 use Rattle.exercise.specs.declared.Record.{Record}
 use Rattle.exercise.specs.declared.Record.the-variants.{Combinational, Register, Malformed}
 use Rattle.settings.specs.Settings.{settingsChecks}
@@ -21,21 +19,12 @@ use Rattle.tables.specs.Records.{cell, cellNumbers, malformed, doubleDriver}
 use Rattle.netlist.specs.Cells.{feeds, cellChecks}
 use Rattle.sheet.specs.Checks.{NONE}
 use Rattle.placing.specs.Places.{labAt, outOfRangeAt, placeTaken, follows}
-use Rattle.lab_pass.specs.Members.{members}
-use Rattle.judge.specs.declared.Fault.{Fault}
-use Rattle.judge.specs.declared.Fault.the-variants as fault
-use Rattle.judge.specs.declared.Finding.{Finding}
-use Rattle.judge.specs.declared.Part.{Part}
-use Rattle.judge.specs.declared.Verdict.{Verdict}
+use Rattle.placing.specs.Members.{members}
+use Rattle.verdict.specs.declared.Finding.{Finding}
+use Rattle.verdict.specs.declared.Verdict.{Verdict}
+use Rattle.verdict.specs.Numbers.{searchedNumbers}
+use Rattle.verdict.specs.Verdicts.{finding, legal, verdictOf}
 use Rattle.judge.specs.Call.{Call, inForce}
-use Rattle.judge.specs.Numbers.{namelessNumbers, searchedNumbers, faultOf}
-
--- what a verdict says first: the number, the cell, the LAB, NONE ("65,535") "where there is none"
-abbrev pub finding : ℕ → ℕ → ℕ → Finding
-finding n i l = record { number = n; cell = i; lab = l }
-
-abbrev pub legal : Finding
-legal = finding 0 NONE NONE
 
 -- one check: what it finds, and whether it is broken
 pub record Check : Type 0 where
@@ -133,64 +122,11 @@ abbrev pub firstBroken : List Check → Finding
 firstBroken [] = legal
 firstBroken (k ∷ ks) = let later = firstBroken ks in cond (k .broken) (k .finding) later
 
--- ---- the verdict
-
--- "the apprentice: 0 for numbers 1 to 23, otherwise the number on the answer sheet"; M-102: 70 to 75 "with apprentice 0"
-unfoldable pub apprenticeOf : List ℕ → ℕ → ℕ
-apprenticeOf a n = cond (elemb n namelessNumbers) 0 (apprentice a)
-
-abbrev pub ofExercise : ℕ → ℕ → Part
-ofExercise start size = record { «of_answer» = false; start = start; size = size }
-
-abbrev pub ofAnswer : ℕ → ℕ → Part
-ofAnswer start size = record { «of_answer» = true; start = start; size = size }
-
--- the lowest cell of LAB l
-abbrev pub firstOr : ℕ → List ℕ → ℕ
-firstOr d [] = d
-firstOr d (x ∷ xs) = x
-
-unfoldable pub lowestIn : List ℕ → ℕ → ℕ → ℕ
-lowestIn a n l = firstOr NONE (members a n l)
-
--- "the culprit, a part of whichever of the two lent sheets is at fault"
-abbrev pub culpritAt : List ℕ → List ℕ → Finding → Fault → Part
--- "for 0 and 1 the empty part at the answer's end"; M-102: 70 to 75 with "the culprit of 1"; M-106: 3, "culprit as for 1"
-culpritAt e a f fault.Call = ofAnswer (length a) 0
--- "for 10 to 14 the first 9 bytes of the exercise (all of them if fewer)"
-culpritAt e a f fault.ExerciseHead = ofExercise 0 (min 9 (length e))
--- "for 15, 16 and 30 to 44 that cell's exercise record"
-culpritAt e a f fault.Record = ofExercise (recordStart (f .cell)) 24
--- "for 20 to 25 the first 11 bytes of the answer (or all)"
-culpritAt e a f fault.AnswerHead = ofAnswer 0 (min 11 (length a))
--- "for 26, 50 and 51 that cell's answer record"
-culpritAt e a f fault.Place = ofAnswer (placeStart (f .cell)) 4
--- "for 60 to 65 the answer record of the lowest cell in that LAB"
-culpritAt e a f fault.Lab = ofAnswer (placeStart (lowestIn a (cellCount e) (f .lab))) 4
-
-unfoldable pub culpritOf : List ℕ → List ℕ → Finding → Part
-culpritOf e a f = culpritAt e a f (faultOf (f .number))
-
-unfoldable pub verdictOf : List ℕ → List ℕ → Finding → Verdict
-verdictOf e a f = record {
-  number = f .number;
-  cell = f .cell;
-  lab = f .lab;
-  apprentice = apprenticeOf a (f .number);
-  culprit = culpritOf e a f;
-}
+-- ---- the verdict, the route buffer and the list of tries
 
 -- THE VERDICT: the first broken check of the list
 unfoldable pub judged : Call → Verdict
 judged c = verdictOf (c .exercise) (c .answer) (firstBroken (checks c))
-
--- the bytes of the culprit
-unfoldable pub bytesOf : List ℕ → List ℕ → Part → List ℕ
-bytesOf e a p = cond (p .«of_answer») (partAt a (p .start) (p .size)) (partAt e (p .start) (p .size))
-
--- the address at which the culprit begins: in the sheet that it is a part of, where the exercise and the answer begin at `e` and `a`
-unfoldable pub addressOf : ℕ × ℕ → ℕ × ℕ → Part → ℕ × ℕ
-addressOf e a p = beginsAt (cond (p .«of_answer») a e) (p .start)
 
 -- "Route buffer when legal": eight bytes for each LAB, by number
 unfoldable pub routeBytes : Call → List ℕ
@@ -207,7 +143,3 @@ triesOf c l = cond (ltb (judged c .lab) l) 0 (labTries (inForce c) (labCells c l
 -- THE LIST OF TRIES AT EXIT of a call that was lent `before`: "written on verdicts 0 and 65 and otherwise unchanged"
 unfoldable pub tried : Call → List ℕ → List ℕ
 tried c before = cond (elemb (judged c .number) searchedNumbers) (map (triesOf c) (below 1024)) before
-
--- the four numbers of a verdict
-abbrev pub numbersOf : Verdict → List ℕ
-numbersOf v = v .number ∷ v .cell ∷ v .lab ∷ v .apprentice ∷ []

@@ -1,5 +1,4 @@
 pub mod Call
-pub mod Numbers
 pub mod Judge
 pub mod Demands
 pub mod Tried

@@ -4,7 +4,6 @@ pub mod Taking
 pub mod Same
 pub mod Short
 pub mod Marked
-pub mod Filling
 pub mod Passing
 pub mod Rows
 pub mod Tried

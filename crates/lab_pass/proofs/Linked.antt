@@ -14,7 +14,7 @@ use Rattle.sheet.specs.Lists.{filterb, from}
 use Rattle.sheet.proofs.Laws.{by-test}
 use Rattle.sheet.specs.Checks.{NONE}
 use Rattle.placing.specs.Places.{labAt}
-use Rattle.lab_pass.specs.Members.{members}
+use Rattle.placing.specs.Members.{members}
 use Rattle.lab_pass.specs.passes.Links.{Links, link, linkBelow, walk}
 
 -- ---- walks

@@ -19,7 +19,7 @@ use Rattle.lab_nets.specs.passes.Uses.{netsWithin}
 use Rattle.lab_rules.specs.passes.Counts.{noCounts, countsAll, brokenBy, needsHeld, routedResult, resultFrom, searched}
 use Rattle.lab_rules.specs.declared.Counts.{Counts}
 use Rattle.lab_pass.specs.passes.Results.{searchOf, putRow, putRows}
-use Rattle.lab_pass.proofs.Filling.{rowFrom, row-length, row-at, Written, write-starts, write-goes, write-left, write-ends}
+use Rattle.sheet.proofs.Filling.{rowFrom, row-length, row-at, Written, write-starts, write-goes, write-left, write-ends}
 
 row-append : (g : ℕ → ℕ) (i m n : ℕ) → rowFrom g i (m + n) ≡ rowFrom g i m ++ rowFrom g (i + m) n
 unfolding rowFrom

@@ -14,7 +14,7 @@ use Rattle.sheet.specs.Lists.{below}
 use Rattle.sheet.proofs.Laws.{by-test}
 use Rattle.sheet.proofs.Lists.{getD-all, table-length, table-at}
 use Rattle.lab_pass.specs.passes.Results.{putTries}
-use Rattle.lab_pass.proofs.Filling.{Written, write-starts, write-goes, write-left}
+use Rattle.sheet.proofs.Filling.{Written, write-starts, write-goes, write-left}
 
 module _ (some : ℕ → Bool) (tries : ℕ → ℕ) (n : ℕ) where
   abbrev zeros : List ℕ

@@ -14,10 +14,11 @@ use Rattle.route.specs.Way.{earliestWay}
 use Rattle.lab_rules.specs.Rules.{needs, labChecks, labNumber, routeOf, labResult}
 use Rattle.lab_rules.specs.declared.LabResult.{LabResult}
 use Rattle.sheet.specs.Checks.{NONE}
-use Rattle.lab_pass.specs.Members.{members}
-use Rattle.judge.specs.declared.Finding.{Finding}
+use Rattle.placing.specs.Members.{members}
+use Rattle.verdict.specs.declared.Finding.{Finding}
 use Rattle.judge.specs.Call.{Call, inForce}
-use Rattle.judge.specs.Judge.{labCells, labGroup, checksTo51, checks, firstBroken, verdictOf, judged, routed}
+use Rattle.judge.specs.Judge.{labCells, labGroup, checksTo51, checks, firstBroken, judged, routed}
+use Rattle.verdict.specs.Verdicts.{verdictOf}
 use Rattle.judge.specs.passes.Stages.{numberedAs, numberedLab}
 use Rattle.judge.specs.Demands.{AllHold}
 use Rattle.judge.proofs.Broken.{skip-held}

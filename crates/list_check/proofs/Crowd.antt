@@ -18,7 +18,7 @@ use Rattle.distinct.proofs.Nets.{from-above, in-from, from-in}
 use Rattle.tables.specs.Records.{cell}
 use Rattle.placing.specs.Places.{kindAt, xAt, yAt, leAt, labAt, samePlace, placeTaken}
 use Rattle.placing.proofs.Places.{in-range, kind-of-record}
-use Rattle.lab_pass.specs.Members.{members}
+use Rattle.placing.specs.Members.{members}
 use Rattle.sheet.proofs.First.{none-below, first-is}
 use Rattle.judge.specs.Judge.{labCells}
 use Rattle.judge.proofs.Kept.{Kept, all-kept}

@@ -8,7 +8,7 @@ use Rattle.sheet.specs.Bytes.{partAt}
 use Rattle.exercise.specs.Exercise.{cellCount, recordPart}
 use Rattle.exercise.specs.Record.{Cell, recordBytes}
 use Rattle.lab_rules.specs.Rules.{labResult}
-use Rattle.lab_pass.specs.Members.{members}
+use Rattle.placing.specs.Members.{members}
 use Rattle.judge.specs.Call.{Call, inForce}
 use Rattle.judge.specs.Judge.{labCells, judged, routed, checksTo51}
 use Rattle.judge.specs.Demands.{AllHold}

@@ -6,7 +6,7 @@ use native.Mathlib.Omega.{arith}
 use borrow.Author.Tests.{eq-eqb, ne-eqb}
 use lib.ListN.{length, replicate, length-replicate}
 use Rattle.exercise.specs.Exercise.{cellCount}
-use Rattle.judge.specs.declared.Verdict.{Verdict}
+use Rattle.verdict.specs.declared.Verdict.{Verdict}
 use Rattle.judge.specs.Call.{call}
 use Rattle.judge.specs.Judge.{judged, routed}
 use Rattle.listing.specs.Text.{overwrite, MOST}

@@ -3,11 +3,12 @@ use Prim.Native.Nat.{ℕ, _+_, _*_}
 use mathlib.Core.Path.{_≡_, refl}
 use mathlib.Core.List.{List, [], _∷_, _++_}
 use Rattle.sheet.specs.Lists.{concatMap}
-use Rattle.judge.specs.Judge.{carryNotNext, labCells, occupied, roomChecks, settingsGroup, exerciseGroup, answerGroup, cellGroup, placeGroup, labGroup, sheetChecks, checksTo51, checks, apprenticeOf, verdictOf, judged}
+use Rattle.judge.specs.Judge.{carryNotNext, labCells, occupied, roomChecks, settingsGroup, exerciseGroup, answerGroup, cellGroup, placeGroup, labGroup, sheetChecks, checksTo51, checks, judged}
+use Rattle.verdict.specs.Verdicts.{apprenticeOf, verdictOf}
 use Rattle.lab_rules.specs.Ports.{counted, clockPair, pairInUse, needed, inLab}
 use Rattle.lab_nets.specs.NetsIn.{inputs, netsIn}
 use Rattle.lab_rules.specs.Rules.{tooManyClocks, tooManyPairs, tooManyClears, tooManySynchronous, tooManyNets, needs, noWay, routeOf}
-use Rattle.lab_pass.specs.Members.{members}
+use Rattle.placing.specs.Members.{members}
 use Rattle.tables.specs.Records.{cell, malformed, driven, doubleDriver}
 use Rattle.netlist.specs.Cells.{feeds, carryInNotFed, carryOutNotReadOnce, cellChecks}
 use Rattle.placing.specs.Places.{labAt, outOfRangeAt, samePlace, placeTaken}

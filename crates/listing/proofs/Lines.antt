@@ -2,7 +2,7 @@
 use Prim.Native.Nat.{ℕ}
 use mathlib.Core.List.{List, _++_}
 use lib.ListN.{getD}
-use Rattle.judge.specs.declared.Verdict.{Verdict}
+use Rattle.verdict.specs.declared.Verdict.{Verdict}
 use Rattle.listing.specs.Text.{ascii, decimal}
 use Rattle.listing.specs.passes.Writes.{Writes}
 use Rattle.listing.specs.Listing.{place, entry, verdictLine, labLine}

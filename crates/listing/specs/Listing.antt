@@ -8,7 +8,7 @@ use lib.ListN.{getD}
 use Rattle.sheet.specs.Lists.{concatMap, filterb, below}
 use Rattle.lab_rules.specs.Rules.{routeOf}
 use Rattle.sheet.specs.Checks.{NONE}
-use Rattle.judge.specs.declared.Verdict.{Verdict}
+use Rattle.verdict.specs.declared.Verdict.{Verdict}
 use Rattle.judge.specs.Call.{Call, call, inForce}
 use Rattle.judge.specs.Judge.{labCells, occupied, judged}
 use Rattle.listing.specs.Text.{ascii, decimal}

@@ -1,6 +1,6 @@
 use judge::NONE;
-use judge::Verdict;
 use sheet::CellNumber;
+use verdict::Verdict;
 ghost use mathlib.Core.Path.{_≡_};
 ghost use mathlib.Core.List.{[], _∷_, _++_};
 ghost use Prim.Native.Nat.{_+_, _≤_};

@@ -3,7 +3,7 @@ use Prim.Native.Nat.{ℕ}
 use mathlib.Core.Path.{_≡_}
 use mathlib.Core.Bool.{cond}
 use mathlib.Core.List.{[], _∷_}
-use Rattle.judge.specs.declared.Verdict.{Verdict}
+use Rattle.verdict.specs.declared.Verdict.{Verdict}
 use Rattle.c_api.specs.Told.{sevenNumbers}
 use borrow.Author.Needs.{needs}
 use Rattle.c_api.proofs.nurimkkot_judge.Statement.{statement}

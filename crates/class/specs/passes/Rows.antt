@@ -3,8 +3,8 @@ use Prim.Native.Nat.{ℕ}
 use mathlib.Core.List.{List, [], _∷_}
 use Rattle.route.specs.Table.{Table}
 use Rattle.judge.specs.declared.Prepared.{Prepared}
-use Rattle.judge.specs.declared.Finding.{Finding}
-use Rattle.judge.specs.Judge.{apprenticeOf}
+use Rattle.verdict.specs.declared.Finding.{Finding}
+use Rattle.verdict.specs.Verdicts.{apprenticeOf}
 use Rattle.judge.specs.passes.Preparing.{foundFrom}
 
 -- number, cell, LAB and apprentice of what is found in the answer `a`

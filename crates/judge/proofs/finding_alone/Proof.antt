@@ -1,7 +1,7 @@
 -- What settings and exercise have, what the answer has, what the cells or the places have: the first that is something.
 use denote.Ref.{now}
 use mathlib.Core.Path.{refl, sym, ap, _∙_}
-use Rattle.judge.specs.declared.Finding.{Finding}
+use Rattle.verdict.specs.declared.Finding.{Finding}
 use Rattle.judge.proofs.Preparing.{passed-exercise, alone-early, alone-answer, alone-placed}
 use borrow.Author.Needs.{needs}
 use Rattle.judge.proofs.finding_alone.Statement.{statement}

@@ -1,7 +1,7 @@
 -- 1 where the route buffer has another length, 3 where the list of tries has, otherwise what the first broken check finds; route and tries are touched only in
 -- the last case.
 use Rattle.judge.specs.Call.{call}
-use Rattle.judge.specs.Judge.{verdictOf}
+use Rattle.verdict.specs.Verdicts.{verdictOf}
 use Rattle.judge.proofs.Preparing.{judge-room, judge-slots, judge-done}
 use mathlib.Core.Path.{ap, _∙_}
 use lib.ListN.{length}

@@ -1,7 +1,7 @@
 -- Where something is found before the answer, it is found by all checks that no answer changes too; otherwise the cells are asked.
 use denote.Ref.{now}
 use mathlib.Core.Path.{refl, sym, ap, _∙_}
-use Rattle.judge.specs.declared.Finding.{Finding}
+use Rattle.verdict.specs.declared.Finding.{Finding}
 use Rattle.judge.proofs.Preparing.{passed-exercise, prepare-stays, prepare-goes}
 use borrow.Author.Needs.{needs}
 use Rattle.judge.proofs.prepare.Statement.{statement}

@@ -12,7 +12,7 @@ use Rattle.route.specs.Table.{Table}
 use Rattle.tables.specs.passes.Tables.{driversBelow}
 use Rattle.lab_pass.specs.passes.Links.{Links, linkBelow}
 use Rattle.lab_pass.specs.passes.Results.{resultAt, triesAt, lowestBroken, hasCells, putRows, putTries, searchedLabs}
-use Rattle.judge.specs.declared.Finding.{Finding}
+use Rattle.verdict.specs.declared.Finding.{Finding}
 use Rattle.judge.specs.declared.Prepared.{Prepared}
 use Rattle.judge.specs.Judge.{settingsGroup, exerciseGroup, answerGroup, cellGroup, firstBroken}
 use Rattle.judge.specs.passes.Stages.{numberedLab, placedBy}

@@ -8,8 +8,8 @@ use Rattle.exercise.specs.declared.Record.{Record}
 use Rattle.placing.specs.Places.{placeTaken}
 use Rattle.placing.specs.passes.Detached.{detachedAt}
 use Rattle.sheet.specs.Checks.{NONE}
-use Rattle.judge.specs.declared.Finding.{Finding}
-use Rattle.judge.specs.Judge.{finding, legal}
+use Rattle.verdict.specs.declared.Finding.{Finding}
+use Rattle.verdict.specs.Verdicts.{finding, legal}
 
 -- the first place below n that g gives a number, with that number
 unfoldable pub numberedAs : (ℕ → ℕ → Finding) → (ℕ → ℕ) → ℕ → Finding
