@@ -127,7 +127,7 @@ fn cell_finding(
 fn place_finding(exercise: &[u8], answer: &[u8], cells: u16, drivers: &[u16]) -> Finding
     ensures { λ r. ⌜ r ≡ placedBy (now (drivers .entry)) (knownAt (now (exercise .entry))) cells (now (exercise .entry)) (now (answer .entry)) ⌝ }
 {
-    let shared = placing::first_shared(exercise, answer, cells);
+    let shared = clashes::first_shared(exercise, answer, cells);
     if shared < cells {
         return at_cell(50, CellNumber(shared), cells);
     }

@@ -14,8 +14,8 @@ use Rattle.sheet.specs.Lists.{firstFrom, anyb, below}
 use Rattle.sheet.proofs.Laws.{by-test, and-parts}
 use Rattle.sheet.proofs.First.{first-below, before-first, first-most, none-first}
 use Rattle.sheet.proofs.Scan.{Scanned, scan-starts, scan-goes-at, scan-stops-at, scan-ends, any-below}
 use Rattle.placing.specs.Places.{kindAt, xAt, yAt, leAt, labAt, samePlace, placeTaken}
-use Rattle.placing.specs.passes.Keys.{key, hasKey, keyOf, putKeys, keyTaken, mayClash, Keyed}
+use Rattle.clashes.specs.passes.Keys.{key, hasKey, keyOf, putKeys, keyTaken, mayClash, Keyed}
 
 -- ---- keys
 one-or-two : (k : ℕ) → eqb k 1 || eqb k 2 ≡ true → (1 ≤ k) × (k ≤ 2)

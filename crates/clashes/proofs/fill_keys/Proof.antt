@@ -2,9 +2,9 @@
 use Prim.Native.Nat.{_-_}
 use native.Mathlib.Omega.{arith}
 use borrow.Author.Needs.{needs}
-use Rattle.placing.proofs.Keys.{Filled, fill-starts, fill-goes, fill-stops, fill-ends, given-key, keyed-cell}
-use Rattle.placing.proofs.fill_keys.Statement.{statement}
-use Rattle.placing.proofs.fill_keys.Tie as tie
+use Rattle.clashes.proofs.Keys.{Filled, fill-starts, fill-goes, fill-stops, fill-ends, given-key, keyed-cell}
+use Rattle.clashes.proofs.fill_keys.Statement.{statement}
+use Rattle.clashes.proofs.fill_keys.Tie as tie
 
 abbrev Inv-loop : tie.InvT-loop
 Inv-loop exercise answer cells keys₀ i₀ keys i = Filled exercise answer cells keys₀ keys i

@@ -1,9 +1,9 @@
 -- A cell that passes the tests has kind 1 or 2, so the difference does not wrap, and with its LAB and LE in range the sum stays below 32,768.
-use Rattle.placing.proofs.Keys.{tests-tell, read-key, read-none}
+use Rattle.clashes.proofs.Keys.{tests-tell, read-key, read-none}
 use native.Mathlib.Omega.{arith}
 use borrow.Author.Needs.{needs}
-use Rattle.placing.proofs.key_of.Statement.{statement}
-use Rattle.placing.proofs.key_of.Tie as tie
+use Rattle.clashes.proofs.key_of.Statement.{statement}
+use Rattle.clashes.proofs.key_of.Tie as tie
 
 pub key-of-spec : {M : Type 1} → statement M
 key-of-spec =

@@ -6,9 +6,9 @@ use lib.Dec.{eqb}
 use borrow.Author.Tests.{eq-eqb, ne-eqb}
 use borrow.Author.Needs.{needs}
 use Rattle.sheet.proofs.Scan.{Scanned, scan-stops-at, some-found, scan, scans}
-use Rattle.placing.specs.passes.Keys.{keyTaken}
-use Rattle.placing.proofs.first_taken.Statement.{statement}
-use Rattle.placing.proofs.first_taken.Tie as tie
+use Rattle.clashes.specs.passes.Keys.{keyTaken}
+use Rattle.clashes.proofs.first_taken.Statement.{statement}
+use Rattle.clashes.proofs.first_taken.Tie as tie
 
 abbrev Inv-loop : tie.InvT-loop
 Inv-loop keys cells i j₀ j = Scanned (λ k. eqb (getD keys k 0) (getD keys i 0)) i j
