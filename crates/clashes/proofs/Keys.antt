@@ -1,5 +1,5 @@
 -- Two cells that have keys stand at one place exactly where their keys are equal, and each marks its key. So the scan over keys finds what the scan
--- over places finds, and where the pass over the marks meets none that is set it finds nothing. Assumes nothing.
+-- over places finds, and no cell clashes before the first that meets its mark. Assumes nothing.
 use Prim.Native.Nat.{ℕ, zero, suc, _+_, _*_, _-_, _<_, _≤_}
 use native.Mathlib.Omega.{arith}
 use native.Mathlib.Numerals.{add-one}
@@ -9,13 +9,14 @@ use mathlib.Core.List.{List}
 use lib.ListN.{length, getD, set, replicate, length-set, length-replicate}
 use lib.Seq.{getD-set-same, getD-set-other}
 use lib.Dec.{eqb, ltb}
+use borrow.Author.Count.{below-more}
 use borrow.Author.Tests.{ltb-true, ltb-false, le-ltb, eqb-true, eqb-false, eq-eqb, ne-eqb, not-false}
 use Rattle.sheet.specs.Lists.{firstFrom, anyb, below}
 use Rattle.sheet.proofs.Laws.{by-test, and-parts}
 use Rattle.sheet.proofs.First.{first-below, before-first, first-most, none-first}
 use Rattle.sheet.proofs.Scan.{Scanned, scan-starts, scan-goes-at, scan-stops-at, scan-ends, any-below}
 use Rattle.placing.specs.Places.{kindAt, xAt, yAt, leAt, labAt, samePlace, placeTaken}
-use Rattle.clashes.specs.passes.Keys.{key, hasKey, keyOf, putKeys, keyTaken, mayClash, Keyed}
+use Rattle.clashes.specs.passes.Keys.{key, hasKey, keyOf, putKeys, keyTaken, Keyed, FreeTo}
 
 -- ---- keys
 one-or-two : (k : ℕ) → eqb k 1 || eqb k 2 ≡ true → (1 ≤ k) × (k ≤ 2)
@@ -129,81 +130,52 @@ module _ (e a : List ℕ) (n : ℕ) (keys₀ keys : List ℕ) (i : ℕ) (s : Fil
         record { scanned = scan-goes-at _ n i (s .scanned) h (rw (g .0)); put = rw (s .put, g .1, add-one) }
 
 -- ---- the pass over the marks
-passed : (q r : Bool) → cond (not q) true r ≡ false → (q ≡ true) × (r ≡ false)
-passed true r h = (refl, h)
-passed false r h = absurd (true≢false h)
+-- what is 0 beside a new mark was 0 before, and is another's
+unmarked : (marks : List ℕ) (k s : ℕ) → k < length marks → getD (set marks k 1) s 0 ≡ 0 → (getD marks s 0 ≡ 0) × (s ≡ k → ⊥)
+unmarked marks k s l z =
+    by-test (eqb s k)
+    (λ t. let same : getD (set marks k 1) k 0 ≡ 0 = rw (eqb-true s k t) at z in absurd (omega (arith, getD-set-same marks k 1 0 l)))
+    (λ t. (sym (getD-set-other marks k s 1 0 (eqb-false s k t)) ∙ z, eqb-false s k t))
 
-module _ (keys : List ℕ) where
-  abbrev keyAt : ℕ → ℕ
-  keyAt i = getD keys i 0
+-- the pass has come to cell i: no cell before it has a lower one's key, and the keys of all of them are marked
+pub record Marked (keys : List ℕ) (n : ℕ) (marks : List ℕ) (i : ℕ) : Type 0 where
+  pub upto : FreeTo keys n i
+  pub long : length marks ≡ 32768
+  pub met : (j : ℕ) → j < i → getD marks (getD keys j 0) 0 ≡ 0 → ⊥
 
-  -- a pass that met no set mark: the first cell's key was free, and from there on it met none either
-  first-clear : (marks : List ℕ) (i k : ℕ) → mayClash keys marks i (suc k) ≡ false
-      → (eqb (getD marks (keyAt i) 0) 0 ≡ true) × (mayClash keys (set marks (keyAt i) 1) (suc i) k ≡ false)
-  unfolding mayClash
-  first-clear marks i k h = passed (eqb (getD marks (keyAt i) 0) 0) (mayClash keys (set marks (keyAt i) 1) (suc i) k) h
+pub none-free : (keys : List ℕ) (n : ℕ) → FreeTo keys n 0
+none-free keys n = record { within = omega arith; free = λ j h. absurd (omega arith) }
 
-  -- a key that is marked is the key of none of the cells that are passed
-  not-met : (marks : List ℕ) (i k s : ℕ) → mayClash keys marks i k ≡ false → (getD marks s 0 ≡ 0 → ⊥) → (m : ℕ) → i ≤ m → m < i + k → s ≡ keyAt m → ⊥
-  not-met marks i zero s h g m l u = λ _. omega arith
-  not-met marks i (suc k) s h g m l u =
-      let f = first-clear marks i k h in
-      let free = eqb-true (getD marks (keyAt i) 0) 0 (f .0) in
-      by-test (eqb m i) (λ t q. g (rw (q, eqb-true m i t) free))
-      (λ t q.
-      let other = eqb-false m i t in
-      not-met (set marks (keyAt i) 1) (suc i) k s (f .1)
-      (λ z. g (sym (getD-set-other marks (keyAt i) s 1 0 (λ w. g (rw w free))) ∙ z)) m (omega arith) (omega arith) q)
+pub mark-starts : (keys : List ℕ) (n : ℕ) → Marked keys n (replicate 32768 0) 0
+mark-starts keys n = record { upto = none-free keys n; long = length-replicate {A = ℕ} 32768 0; met = λ j h. absurd (omega arith) }
 
-  module _ (n : ℕ) (w : Keyed keys n) where
-    -- a pass over enough marks meets no two cells with one key
-    apart : (marks : List ℕ) (i k : ℕ) → i + k ≡ n → length marks ≡ 32768 → mayClash keys marks i k ≡ false
-        → (j m : ℕ) → i ≤ j → j < m → m < i + k → keyAt j ≡ keyAt m → ⊥
-    apart marks i zero z long h j m l b u = λ _. omega arith
-    apart marks i (suc k) z long h j m l b u =
-        let f = first-clear marks i k h in
-        let next = set marks (keyAt i) 1 in
-        let still : length next ≡ 32768 = length-set marks (keyAt i) 1 ∙ long in
-        let set-here : getD next (keyAt i) 0 ≡ 1 = getD-set-same marks (keyAt i) 1 0 (omega (arith, w .low i (omega arith))) in
-        by-test (eqb j i)
-        (λ t. let here = eqb-true j i t in not-met next (suc i) k (keyAt j) (f .1) (λ z. omega (arith, rw here at z)) m (omega arith) (omega arith))
-        (λ t. let other = eqb-false j i t in apart next (suc i) k (omega arith) still (f .1) j m (omega arith) b (omega arith))
+module _ (keys : List ℕ) (n : ℕ) (w : Keyed keys n) (marks : List ℕ) (i : ℕ) (p : Marked keys n marks i) (h : i < n) (z : getD marks (getD keys i 0) 0 ≡ 0) where
+  -- the key of cell i was not met
+  not-taken : keyTaken keys i ≡ false
+  unfolding keyTaken
+  not-taken =
+      let f : ℕ → Bool = λ j. eqb (getD keys j 0) (getD keys i 0) in
+      let none : (j : ℕ) → j < i → f j ≡ false = λ j b. ne-eqb (getD keys j 0) (getD keys i 0) (λ q. p .met j b (rw q z)) in
+      any-below f i ∙ le-ltb (firstFrom f 0 i) i (omega (arith, none-first f i none))
 
-    -- so no cell has a lower one's key
-    no-clash : mayClash keys (replicate 32768 0) 0 n ≡ false → (i : ℕ) → i < n → keyTaken keys i ≡ false
-    unfolding keyTaken
-    no-clash h i l =
-        let f : ℕ → Bool = λ j. eqb (keyAt j) (keyAt i) in
-        let none : (j : ℕ) → j < i → f j ≡ false =
-        λ j b. ne-eqb (keyAt j) (keyAt i) (apart (replicate 32768 0) 0 n (omega arith) (length-replicate {A = ℕ} 32768 0) h j i (omega arith) b (omega arith)) in
-        any-below f i ∙ le-ltb (firstFrom f 0 i) i (omega (arith, none-first f i none))
+  pub mark-goes : Marked keys n (set marks (getD keys i 0) 1) (i + 1)
+  mark-goes =
+      let room : getD keys i 0 < length marks = omega (arith, w .low i h, p .long) in
+      record {
+        upto = record { within = omega arith; free = below-more (λ (j : ℕ). keyTaken keys j ≡ false) i (p .upto .free) not-taken };
+        long = length-set marks (getD keys i 0) 1 ∙ p .long;
+        met =
+            below-more (λ (j : ℕ). getD (set marks (getD keys i 0) 1) (getD keys j 0) 0 ≡ 0 → ⊥) i
+            (λ j b q. p .met j b (unmarked marks (getD keys i 0) (getD keys j 0) room q .0))
+            (λ q. unmarked marks (getD keys i 0) (getD keys i 0) room q .1 refl);
+      }
 
--- the pass has come to cell i with these marks, and met none that was set
-pub record Passed (keys : List ℕ) (n : ℕ) (first marks : List ℕ) (i : ℕ) : Type 0 where
-  pub within : i ≤ n
-  pub same : mayClash keys first 0 n ≡ mayClash keys marks i (n - i)
-
-pub pass-starts : (keys : List ℕ) (n : ℕ) (first : List ℕ) → Passed keys n first first 0
-pass-starts keys n first = record { within = omega arith; same = ap (mayClash keys first 0) (omega arith) }
-
-module _ (keys : List ℕ) (n : ℕ) (first marks : List ℕ) (i : ℕ) (p : Passed keys n first marks i) where
-  pub pass-ends : n ≤ i → false ≡ mayClash keys first 0 n
-  unfolding mayClash
-  pass-ends h = let none : n - i ≡ zero = omega arith in sym (p .same ∙ rw none)
-
-  module _ (h : i < n) where
-    more : n - i ≡ suc (n - (i + 1))
-    more = omega arith
-
-    pub pass-meets : (getD marks (getD keys i 0) 0 ≡ 0 → ⊥) → true ≡ mayClash keys first 0 n
-    unfolding mayClash
-    pass-meets g = sym (p .same ∙ rw (more, ne-eqb (getD marks (getD keys i 0) 0) 0 g))
-
-    pub pass-goes : getD marks (getD keys i 0) 0 ≡ 0 → Passed keys n first (set marks (getD keys i 0) 1) (i + 1)
-    unfolding mayClash
-    pass-goes g = record { within = omega arith; same = p .same ∙ rw (more, eq-eqb (getD marks (getD keys i 0) 0) 0 g, add-one) }
-
-pub ruleset passing = (pass-starts, pass-ends, pass-meets, pass-goes)
+-- 50: so the scan may begin there
+pub scanned-to : (keys : List ℕ) (n i : ℕ) → FreeTo keys n i → Scanned (keyTaken keys) n i
+scanned-to keys n zero p = scan-starts (keyTaken keys) n
+scanned-to keys n (suc i) p =
+    let lower : FreeTo keys n i = record { within = omega (arith, p .within); free = λ j b. p .free j (omega arith) } in
+    rw (sym (add-one i)) (scan-goes-at (keyTaken keys) n i (scanned-to keys n i lower) (omega (arith, p .within)) (p .free i (omega arith)))
 
 -- ---- where every cell has a key
 any-same : (f g : ℕ → Bool) (n : ℕ) → ((j : ℕ) → j < n → f j ≡ g j) → anyb f (below n) ≡ anyb g (below n)
@@ -234,7 +206,3 @@ module _ (e a : List ℕ) (n : ℕ) (keys : List ℕ) (r : ℕ) (found : r ≡ f
   -- 50
   pub taken-first : {m : ℕ} → m ≡ firstFrom (keyTaken keys) 0 n → m ≡ firstFrom (placeTaken e a) 0 n
   taken-first q = q ∙ first-below (keyTaken keys) (placeTaken e a) n taken-is
-
-  -- 50
-  pub none-shared : (b : Bool) → b ≡ mayClash keys (replicate 32768 0) 0 n → b ≡ false → n ≡ firstFrom (placeTaken e a) 0 n
-  none-shared b q t = taken-first (sym (none-first (keyTaken keys) n (no-clash keys n keyed-are (sym q ∙ t))))

@@ -5,7 +5,7 @@ ghost use Prim.Native.Nat.{_<_};
 ghost use lib.ListN.{replicate};
 ghost use Rattle.sheet.specs.Lists.{firstFrom};
 ghost use Rattle.placing.specs.Places.{kindAt, samePlace, placeTaken};
-ghost use Rattle.clashes.specs.passes.Keys.{hasKey, keyOf, putKeys, keyTaken, mayClash, Keyed};
+ghost use Rattle.clashes.specs.passes.Keys.{hasKey, keyOf, putKeys, keyTaken, Keyed, FreeTo};
 
 // LAB columns and rows of the device, LEs of a LAB, cells that a table of keys has room for, and cells that are compared sooner than the
 // marks are cleared.
@@ -95,30 +95,31 @@ fn fill_keys(exercise: &[u8], answer: &[u8], cells: u16, keys: &mut [u16; 512]) 
     i
 }
 
-// Whether two cells may have one key: one mark for each key.
-fn may_clash(keys: &[u16; 512], cells: u16) -> bool
+// How many cells from the first on have a key that no lower one has, or fewer of them: a mark for each key that was met.
+fn free_to(keys: &[u16; 512], cells: u16) -> u16
     requires { ⌜ Keyed (now keys) cells ⌝ }
-    ensures { λ r. ⌜ r ≡ mayClash (now (keys .entry)) (replicate 32768 0) 0 cells ⌝ }
+    ensures { λ r. ⌜ FreeTo (now (keys .entry)) cells r ⌝ }
 {
     let mut marks = [0u8; 32768];
     let mut i: u16 = 0;
     while i < cells {
         let key = keys[i as usize] as usize;
         if marks[key] != 0 {
-            return true;
+            return i;
         }
         marks[key] = 1;
         i += 1;
     }
-    false
+    i
 }
 
 // The pairwise scan over keys: the lowest cell that has a lower cell's key, or the number of cells.
-fn first_taken(keys: &[u16; 512], cells: u16) -> u16
-    requires { ⌜ Keyed (now keys) cells ⌝ }
+fn first_taken(keys: &[u16; 512], cells: u16, free: u16) -> u16
+    requires keyed { ⌜ Keyed (now keys) cells ⌝ }
+    requires below { ⌜ FreeTo (now keys) cells free ⌝ }
     ensures { λ r. ⌜ r ≡ firstFrom (keyTaken (now (keys .entry))) 0 cells ⌝ }
 {
-    let mut i: u16 = 0;
+    let mut i = free;
     'cells: while i < cells {
         let mut j: u16 = 0;
         while j < i {
@@ -143,10 +144,7 @@ pub fn first_shared(exercise: &[u8], answer: &[u8], cells: u16) -> u16
         return first_clash(exercise, answer, cells);
     }
     if cells <= FEW {
-        return first_taken(&keys, cells);
+        return first_taken(&keys, cells, 0);
     }
-    if may_clash(&keys, cells) {
-        return first_taken(&keys, cells);
-    }
-    cells
+    first_taken(&keys, cells, free_to(&keys, cells))
 }

@@ -1,4 +1,4 @@
--- Both loops scan: the outer one for the first cell whose key is taken, the inner one for a lower cell that has it.
+-- Both loops scan: the outer one, from the first cell that may clash, for the first cell whose key is taken, the inner one for a lower cell that has it.
 use mathlib.Core.Path.{refl}
 use Prim.Native.Nat.{_-_}
 use lib.ListN.{getD}
@@ -7,20 +7,21 @@ use borrow.Author.Tests.{eq-eqb, ne-eqb}
 use borrow.Author.Needs.{needs}
 use Rattle.sheet.proofs.Scan.{Scanned, scan-stops-at, some-found, scan, scans}
 use Rattle.clashes.specs.passes.Keys.{keyTaken}
+use Rattle.clashes.proofs.Keys.{scanned-to}
 use Rattle.clashes.proofs.first_taken.Statement.{statement}
 use Rattle.clashes.proofs.first_taken.Tie as tie
 
 abbrev Inv-loop : tie.InvT-loop
-Inv-loop keys cells i j₀ j = Scanned (λ k. eqb (getD keys k 0) (getD keys i 0)) i j
+Inv-loop keys cells free i j₀ j = Scanned (λ k. eqb (getD keys k 0) (getD keys i 0)) i j
 
 abbrev μ-loop : tie.MeasureT-loop
-μ-loop keys cells i j₀ j = i - j
+μ-loop keys cells free i j₀ j = i - j
 
 abbrev Inv-cells : tie.InvT-cells
-Inv-cells keys cells i₀ i = Scanned (keyTaken keys) cells i
+Inv-cells keys cells free i₀ i = Scanned (keyTaken keys) cells i
 
 abbrev μ-cells : tie.MeasureT-cells
-μ-cells keys cells i₀ i = cells - i
+μ-cells keys cells free i₀ i = cells - i
 
 pub first-taken-spec : {M : Type 1} → statement M
 unfolding keyTaken
@@ -31,7 +32,7 @@ first-taken-spec =
     μ-loop
     Inv-cells
     μ-cells
-    (λ c. search scan)  -- cells-holds
+    (λ c. scanned-to _ _ _ (c .pre .1))  -- cells-holds
     (λ c. search scan)  -- loop-holds
     (λ c. search needs)  -- cast-if1
     (λ c. search needs)  -- mul-if1

@@ -1,7 +1,8 @@
 -- One number, the key, for each place of each kind: where every cell has one, the pairwise scan of rule 50 compares keys, and a pass over one mark
--- for each key tells whether the scan has to run. Assumes nothing.
+-- for each key tells where it has to begin. Assumes nothing.
 use Prim.Native.Nat.{ℕ, zero, suc, _+_, _*_, _-_, _<_, _≤_}
-use mathlib.Core.Bool.{Bool, true, false, cond, not, _&&_, _||_}
+use mathlib.Core.Bool.{Bool, false, cond, _&&_, _||_}
+use mathlib.Core.Path.{_≡_}
 use mathlib.Core.List.{List}
 use lib.ListN.{getD, set}
 use lib.Dec.{eqb, ltb}
@@ -30,13 +31,12 @@ putKeys e a keys (suc k) = set (putKeys e a keys k) k (key e a k)
 unfoldable pub keyTaken : List ℕ → ℕ → Bool
 keyTaken keys i = anyb (λ j. eqb (getD keys j 0) (getD keys i 0)) (below i)
 
--- of the k cells from i on, one has a marked key; each cell marks its key
-unfoldable pub mayClash : List ℕ → List ℕ → ℕ → ℕ → Bool
-mayClash keys marks i zero = false
-mayClash keys marks i (suc k) =
-    cond (not (eqb (getD marks (getD keys i 0) 0) 0)) true (mayClash keys (set marks (getD keys i 0) 1) (suc i) k)
-
 -- the first n keys of a table for 512 are in range
 pub record Keyed (keys : List ℕ) (n : ℕ) : Type 0 where
   pub room : n ≤ 512
   pub low : (i : ℕ) → i < n → getD keys i 0 < 32768
+
+-- of n cells, none below i has a lower one's key
+pub record FreeTo (keys : List ℕ) (n i : ℕ) : Type 0 where
+  pub within : i ≤ n
+  pub free : (j : ℕ) → j < i → keyTaken keys j ≡ false
