@@ -1,11 +1,12 @@
-//! Time per judgement of the proved judge and of the Rust judge on the same
-//! sheets, also where the search for a way is long, how it grows with the number of
+//! Time per judgement of the proved judge, of the Rust judge and of the fast one on the
+//! same sheets, also where the search for a way is long, how it grows with the number of
 //! cells, how the count of nets into a LAB grows with the number of reads, and what
 //! the least work takes in the same run; then the tries of long searches beside a plain
 //! search, the list check, the readers and the writers beside plain ones, a class beside
 //! as many single calls, and the minutes of a log beside a plain program and a fast one.
 
 mod class;
+mod fast;
 mod generate;
 mod judge;
 mod lent;
@@ -24,6 +25,7 @@ use lent::Lent;
 use minutes::{Credit, Entry, APPRENTICES, ENTRIES, WEEK};
 use plain::{CellRecord, Need, Settings, Step};
 use settings::HOUSE;
+use std::collections::HashSet;
 use std::hint::black_box;
 use std::time::{Duration, Instant};
 use try_forms::{Needs, NOT_HELD};
@@ -390,6 +392,36 @@ fn row(what: &str, size: usize, proved: f64, plain: f64) {
     println!("{what:<31}{size:>6}{proved:>13.3}{plain:>13.3}{ratio:>8.2}");
 }
 
+/// Microseconds per judgement by the proved, the Rust and the fast judge, in turn.
+fn three_judges(settings: &[u8], inputs: &[(Vec<u8>, Vec<u8>)]) -> [f64; 3] {
+    let mut lent = [Lent::new(), Lent::new(), Lent::new()];
+    let [l0, l1, l2] = &mut lent;
+    let mut proved = |(e, a): &(Vec<u8>, Vec<u8>)| {
+        black_box(proved::judge(settings, e, a, l0.parts()));
+    };
+    let mut rust = |(e, a): &(Vec<u8>, Vec<u8>)| {
+        black_box(judge::judge(settings, e, a, l1.parts()));
+    };
+    let mut fast = |(e, a): &(Vec<u8>, Vec<u8>)| {
+        black_box(fast::judge(settings, e, a, l2.parts()));
+    };
+    in_turn(inputs, [&mut proved, &mut rust, &mut fast])
+}
+
+/// The fast judge says and writes what the Rust judge does on each of the inputs, and no
+/// two of these are the same.
+fn assert_fast(settings: &[u8], inputs: &[(Vec<u8>, Vec<u8>)]) {
+    let mut lent = [Lent::new(), Lent::new()];
+    let [left, right] = &mut lent;
+    for (e, a) in inputs {
+        let v = judge::judge(settings, e, a, left.parts());
+        assert_eq!(fast::judge(settings, e, a, right.parts()), v);
+        assert!(left == right);
+    }
+    let different: HashSet<&(Vec<u8>, Vec<u8>)> = inputs.iter().collect();
+    assert_eq!(different.len(), VARIANTS);
+}
+
 /// Microseconds per judgement by the proved and by the Rust judge, in turn.
 fn judges(settings: &[u8], inputs: &[(Vec<u8>, Vec<u8>)]) -> (f64, f64) {
     let mut lent = [Lent::new(), Lent::new()];
@@ -417,12 +449,11 @@ fn judged(
     number: u32,
     spread: &str,
     [size, labs]: [usize; 2],
-    (proved, rust): (f64, f64),
+    [proved, rust, fast]: [f64; 3],
 ) {
-    let ratio = proved / rust;
-    println!(
-        "{name:<21}{number:>4}  {spread:<10}{size:>6}{labs:>6}{proved:>13.3}{rust:>13.3}{ratio:>8.2}"
-    );
+    let shape = format!("{name:<21}{number:>4}  {spread:<10}{size:>6}{labs:>6}");
+    let [to_rust, to_fast] = [proved / rust, proved / fast];
+    println!("{shape}{proved:>13.3}{rust:>13.3}{to_rust:>8.2}{fast:>13.3}{to_fast:>8.2}");
 }
 
 /// 10,245 partial ways stand at or before the earliest way for eight needs of different
@@ -518,7 +549,8 @@ fn search(rng: &mut Rng) {
             inputs.push((e, a));
         }
         let number = if way.is_some() { 0 } else { 65 };
-        let each = judges(&settings, &inputs);
+        assert_fast(&settings, &inputs);
+        let each = three_judges(&settings, &inputs);
         let labs = list.len();
         let spread = if labs == 1 { "one LAB" } else { "few LABs" };
         judged(name, number, spread, [2 * labs, labs], each);
@@ -817,15 +849,21 @@ const NO_ROW: Row = Row {
 // As many different classes in turn.
 const CLASSES: usize = 8;
 
+// Nanoseconds; a work whose single round takes longer has only so many runs.
+const LONG_ROUND: f64 = 50e6;
+const LONG_RUNS: usize = 3;
+
 /// Microseconds per input of three works on the same inputs, in turn.
 fn in_turn<T>(inputs: &[T], mut works: [&mut dyn FnMut(&T); 3]) -> [f64; 3] {
     let n = works.each_mut().map(|work| rounds(inputs, work));
     let mut each = [Vec::new(), Vec::new(), Vec::new()];
     // Fewer runs where a single round already fills the time.
     let runs = if n[0] == 1 { RUNS / 3 } else { RUNS };
-    for _ in 0..runs {
+    for k in 0..runs {
         for i in 0..3 {
-            each[i].push(run(inputs, n[i], &mut works[i]));
+            if k < LONG_RUNS || each[i][0] * (inputs.len() as f64) < LONG_ROUND {
+                each[i].push(run(inputs, n[i], &mut works[i]));
+            }
         }
     }
     each.map(|times| median(times) / 1000.0)
@@ -1030,8 +1068,17 @@ fn main() {
     let mut growth = Vec::new();
     println!("time per judgement, median of up to {RUNS} runs over {VARIANTS} pairs of sheets");
     println!(
-        "{:<21}{:>4}  {:<10}{:>6}{:>6}{:>13}{:>13}{:>8}",
-        "outcome", "no.", "spread", "cells", "LABs", "proved us", "Rust us", "ratio"
+        "{:<21}{:>4}  {:<10}{:>6}{:>6}{:>13}{:>13}{:>8}{:>13}{:>8}",
+        "outcome",
+        "no.",
+        "spread",
+        "cells",
+        "LABs",
+        "proved us",
+        "Rust us",
+        "ratio",
+        "fast us",
+        "ratio"
     );
     for outcome in [
         Outcome::Legal,
@@ -1067,9 +1114,10 @@ fn main() {
                     assert_eq!(proved::judge(&HOUSE, &e, &a, lent.parts()), v);
                     inputs.push((e, a));
                 }
-                let each = judges(&HOUSE, &inputs);
+                assert_fast(&HOUSE, &inputs);
+                let each = three_judges(&HOUSE, &inputs);
                 judged(outcome.name(), outcome.number(), spread, [size, labs], each);
-                series.push(each);
+                series.push((each[0], each[1]));
             }
             growth.push((outcome, spread, series));
         }

@@ -1,9 +1,10 @@
-//! The proved judge and the Rust judge on the same sheets, each with its own copy of what
-//! is lent.
+//! The proved judge, the Rust judge and the fast one on the same sheets, each with its own
+//! copy of what is lent.
 
+use crate::fast;
 use crate::generate::Case;
 use crate::hex;
-use crate::judge;
+use crate::judge::{self, Verdict};
 use crate::lent::Lent;
 use crate::proved;
 use std::fmt::Write;
@@ -60,6 +61,7 @@ pub struct Both {
     before: Lent,
     left: Lent,
     right: Lent,
+    fast: Lent,
 }
 
 impl Both {
@@ -68,6 +70,7 @@ impl Both {
             before: Lent::new(),
             left: Lent::new(),
             right: Lent::new(),
+            fast: Lent::new(),
         }
     }
 
@@ -78,8 +81,9 @@ impl Both {
         self.right.copy(&self.before);
         let [s, e, a] = [call.settings, call.exercise, call.answer];
         let p = proved::judge(s, e, a, self.left.parts());
-        let r = proved::numbers(&judge::judge(s, e, a, self.right.parts()));
-        let mut wrong = self.differences();
+        let verdict = judge::judge(s, e, a, self.right.parts());
+        let r = proved::numbers(&verdict);
+        let mut wrong = differences(["proved", "Rust"], [&self.left, &self.right]);
         if p != r {
             wrong.push_str("the answers differ\n");
         }
@@ -91,28 +95,29 @@ impl Both {
                 let _ = writeln!(wrong, "{who}: {} changed the list of tries", n[0]);
             }
         }
+        if !wrong.is_empty() {
+            let _ = writeln!(wrong, "proved: {}\nRust:   {}", describe(&p), describe(&r));
+        }
+        wrong += &self.beside_fast(call, &verdict);
         if wrong.is_empty() {
             return Ok(p);
         }
-        let _ = writeln!(wrong, "proved: {}\nRust:   {}", describe(&p), describe(&r));
         Err(wrong + &call.describe())
     }
 
-    /// The first byte and the first number that differ after the two calls.
-    fn differences(&self) -> String {
-        let mut wrong = String::new();
-        if let Some((at, [left, right])) = self.left.route_difference(&self.right) {
-            let lab = at.div_euclid(8);
-            let _ = writeln!(
-                wrong,
-                "route byte {at} (lab {lab}) differs: proved {left}, Rust {right}"
-            );
+    /// The fast judge on the call that the Rust judge has just had; empty where it says
+    /// and writes the same.
+    fn beside_fast(&mut self, call: &Call, verdict: &Verdict) -> String {
+        self.fast.copy(&self.before);
+        let [s, e, a] = [call.settings, call.exercise, call.answer];
+        let told = fast::judge(s, e, a, self.fast.parts());
+        let mut wrong = differences(["Rust", "fast"], [&self.right, &self.fast]);
+        if told != *verdict {
+            wrong.push_str("the answers of the Rust judge and of the fast one differ\n");
         }
-        if let Some((lab, [left, right])) = self.left.tries_difference(&self.right) {
-            let _ = writeln!(
-                wrong,
-                "tries of lab {lab} differ: proved {left}, Rust {right}"
-            );
+        if !wrong.is_empty() {
+            let [r, f] = [verdict, &told].map(|v| describe(&proved::numbers(v)));
+            let _ = writeln!(wrong, "Rust:   {r}\nfast:   {f}");
         }
         wrong
     }
@@ -150,4 +155,20 @@ impl Both {
     pub fn tries_before(&self) -> &[u32] {
         self.before.tries()
     }
+}
+
+/// The first byte and the first number that differ after two calls.
+fn differences([one, other]: [&str; 2], [left, right]: [&Lent; 2]) -> String {
+    let mut wrong = String::new();
+    if let Some((at, [l, r])) = left.route_difference(right) {
+        let lab = at.div_euclid(8);
+        let _ = writeln!(
+            wrong,
+            "route byte {at} (lab {lab}) differs: {one} {l}, {other} {r}"
+        );
+    }
+    if let Some((lab, [l, r])) = left.tries_difference(right) {
+        let _ = writeln!(wrong, "tries of lab {lab} differ: {one} {l}, {other} {r}");
+    }
+    wrong
 }

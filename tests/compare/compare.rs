@@ -1,7 +1,7 @@
-//! Judges seeded pairs of sheets, each on a board, by the proved judge and by the
-//! Rust judge, reads them by the readers, checks the list of every LAB, writes them
-//! and others by the writers, marks classes, credits the minutes of logs, counts the
-//! tries of the search, and stops at the first difference.
+//! Judges seeded pairs of sheets, each on a board, by the proved judge, by the Rust
+//! judge and by the fast one, reads them by the readers, checks the list of every LAB,
+//! writes them and others by the writers, marks classes, credits the minutes of logs,
+//! counts the tries of the search, and stops at the first difference.
 //! Arguments: number of pairs (200000), seed (1).
 
 mod boards;
@@ -10,6 +10,7 @@ mod class;
 mod class_examples;
 mod class_sheets;
 mod crediting;
+mod fast;
 mod faults;
 mod forms;
 mod generate;
@@ -375,8 +376,38 @@ fn examples() -> Vec<Example> {
         };
         add(&format!("{n} cells"), s, expect);
     }
+    list.extend([38, 39].map(nets_at_registers));
     list.extend(boards::examples());
     list
+}
+
+/// Sixteen registers and no other cell with so many nets in, 38 or 39: each has two data
+/// nets of its own, and the needs of P12 and an ena are the rest.
+fn nets_at_registers(reads: u16) -> Example {
+    let one = |i: u16| {
+        let ena = if reads == 39 { net(38) } else { 0 };
+        let (clk, aclr) = (net(32 + i % 2), net(34 + i % 2));
+        [
+            (DATAIN, net(i)),
+            (SDATA, net(16 + i)),
+            (CLK, clk),
+            (ENA, ena),
+            (ACLR, aclr),
+            (SCLR, net(36)),
+            (SLOAD, net(37)),
+        ]
+    };
+    let ports: Vec<[(usize, u16); 7]> = (0..16).map(one).collect();
+    let ports: Vec<&[(usize, u16)]> = ports.iter().map(|p| &p[..]).collect();
+    Example {
+        name: format!("{reads} nets in at registers"),
+        settings: HOUSE.to_vec(),
+        sheets: registers(39, 78, &ports),
+        expect: match reads {
+            38 => Expect::Legal(vec![(78, [0, 2, 255, 255, 1, 4, 5, 3])]),
+            _ => Expect::Refused(64, NO, 78, [1, 11, 4]),
+        },
+    }
 }
 
 fn run_examples(both: &mut Both, rng: &mut Rng, pattern: &[u8]) {
