@@ -25,27 +25,36 @@ onFrom r ns w i = entriesFor r (drop i ns) (drop i w)
 
 -- j needs of the role are to be passed, from need i on
 module _ (r count : ℕ) (list : List Need) (w : List ℕ) (i j : ℕ) where
-  pub none-on : length (take count list) ≤ i → 255 ≡ getD (onFrom r (take count list) w i) j 255
+  none-on : length (take count list) ≤ i → 255 ≡ getD (onFrom r (take count list) w i) j 255
   none-on h = rw (drop-of-length-le (take count list) h) refl
 
-  -- need i is looked at: it is the one, it is one to pass, or it has another role
-  module _ (known : (i < count) × (i < length list) × (i < length w)) where
-    on-step : onFrom r (take count list) w i ≡ cond (eqb (needAt list i .role) r) (getD w i 0 ∷ onFrom r (take count list) w (i + 1)) (onFrom r (take count list) w (i + 1))
-    on-step =
-        let h : i < length (take count list) = omega (arith, length-take count list) in
-        rw (add-one, drop-cons (take count list) i noNeed h, drop-cons w i 0 (known .2), getD-take count list i noNeed (known .0)) refl
+  -- before need i is looked at: the byte is what is found from there on
+  module _ (long : length list ≡ 8) (whole : ℕ) (left : whole ≡ getD (onFrom r (take count list) w i) j 255) where
+    -- there is none
+    pub past-count : count ≤ i → 255 ≡ whole
+    past-count h = none-on (omega (arith, length-take count list)) ∙ sym left
 
-    pub this-one : needAt list i .role ≡ r → j ≡ 0 → getD w i 0 ≡ getD (onFrom r (take count list) w i) j 255
-    this-one q z = rw (on-step, eq-eqb _ _ q, z) refl
+    pub past-eight : 8 ≤ i → 255 ≡ whole
+    past-eight h = none-on (omega (arith, length-take count list)) ∙ sym left
 
-    pub one-passed : needAt list i .role ≡ r → (j ≡ 0 → ⊥)
-        → getD (onFrom r (take count list) w i) j 255 ≡ getD (onFrom r (take count list) w (i + 1)) (j - 1) 255
-    one-passed q z =
-        let back : j ≡ suc (j - 1) = omega arith in
-        rw (on-step, eq-eqb _ _ q) (ap (λ (k : ℕ). getD (getD w i 0 ∷ onFrom r (take count list) w (i + 1)) k 255) back)
+    -- it is the one, it is one to pass, or it has another role
+    module _ (as-long : length w ≡ 8) (low : i < 8) (h : i < count) where
+      on-step : onFrom r (take count list) w i ≡ cond (eqb (needAt list i .role) r) (getD w i 0 ∷ onFrom r (take count list) w (i + 1)) (onFrom r (take count list) w (i + 1))
+      on-step =
+          let k : i < length (take count list) = omega (arith, length-take count list) in
+          let l : i < length w = omega arith in
+          rw (add-one, drop-cons (take count list) i noNeed k, drop-cons w i 0 l, getD-take count list i noNeed h) refl
 
-    pub other-role : (needAt list i .role ≡ r → ⊥) → getD (onFrom r (take count list) w i) j 255 ≡ getD (onFrom r (take count list) w (i + 1)) j 255
-    other-role q = rw (on-step, ne-eqb _ _ q) refl
+      pub this-one : needAt list i .role ≡ r → j ≡ 0 → getD w i 0 ≡ whole
+      this-one q z = sym (left ∙ rw (on-step, eq-eqb _ _ q, z) refl)
+
+      pub one-passed : needAt list i .role ≡ r → (j ≡ 0 → ⊥) → (j′ : ℕ) → j′ ≡ j - 1 → whole ≡ getD (onFrom r (take count list) w (i + 1)) j′ 255
+      one-passed q z j′ is =
+          let back : j ≡ suc j′ = omega arith in
+          left ∙ rw (on-step, eq-eqb _ _ q) (ap (λ (k : ℕ). getD (getD w i 0 ∷ onFrom r (take count list) w (i + 1)) k 255) back)
+
+      pub other-role : (needAt list i .role ≡ r → ⊥) → (j′ : ℕ) → j′ ≡ j → whole ≡ getD (onFrom r (take count list) w (i + 1)) j′ 255
+      other-role q j′ is = rw is (left ∙ rw (on-step, ne-eqb _ _ q) refl)
 
 -- ---- the eight bytes, each by itself
 module _ (ns : List Need) (w : List ℕ) {b₀ b₁ b₂ b₃ b₄ b₅ b₆ b₇ : ℕ} where

@@ -27,11 +27,16 @@ module _ (p : Need → Bool) (needs : List Need) (n at : ℕ) where
     need-next : i < n → n ≤ length needs → anyFrom i ≡ p (needAt needs i) || anyFrom (i + 1)
     need-next h l = rw (add-one i, slice-cons i n needs noNeed h l) refl
 
-    pub later-goes : i < n → n ≤ length needs → p (needAt needs i) ≡ false → NoneTo (i + 1)
-    later-goes h l q = (omega arith, before .1 ∙ need-next h l ∙ rw q refl)
+    -- need i is looked at, and this is the answer
+    module _ (h : i < n) (l : n ≤ 8) (long : length needs ≡ 8) (answer : Bool) (said : answer ≡ p (needAt needs i)) where
+      need-said : anyFrom (at + 1) ≡ answer || anyFrom (i + 1)
+      need-said = rw said (before .1 ∙ need-next h (omega arith))
 
-    pub later-stops : i < n → n ≤ length needs → p (needAt needs i) ≡ true → true ≡ anyFrom (at + 1)
-    later-stops h l q = sym (before .1 ∙ need-next h l ∙ rw q refl)
+      pub later-goes : answer ≡ false → NoneTo (i + 1)
+      later-goes q = (omega arith, need-said ∙ rw q refl)
+
+      pub later-stops : answer ≡ true → true ≡ anyFrom (at + 1)
+      later-stops q = sym (need-said ∙ rw q refl)
 
     pub later-ends : n ≤ i → false ≡ anyFrom (at + 1)
     later-ends h = let last : i ≡ n = omega (arith, before .0) in sym (before .1 ∙ rw (last, slice-empty) refl)

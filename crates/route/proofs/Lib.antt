@@ -8,12 +8,14 @@ mod TriedWays
 pub mod EightBytes
 pub mod NeedLists
 mod Rows
+mod Numbers
 mod Steps
 mod Turns
 mod Idle
 mod Twins
 mod Later
 mod Repeats
+mod Placing
 mod Whole
 mod Bytes
 mod TriesCases

@@ -53,6 +53,11 @@ module _ (t : Table) (held : List ℕ) (n : Need) (ns : List Need) (e : ℕ) whe
       by-test (eqb (getD held e 0) 0) (λ p. eqb-true (getD held e 0) 0 p)
       (λ p. absurd (true≢false (rw p at q)))
 
+-- what the test said of the kind that was found, it says of the kind
+pub like-told : (t : Table) (ns : List Need) (noted f e found kind : ℕ) → found ≡ kind → (answer : Bool) → answer ≡ failsLike t ns noted found f e → answer ≡ true
+    → failsLike t ns noted kind f e ≡ true
+like-told t ns noted f e found kind is answer said q = rw is at (sym said ∙ q)
+
 -- ---- what is noted
 module _ (t : Table) (held : List ℕ) (needs : List Need) (n at : ℕ) where
   abbrev ok : ℕ → Bool

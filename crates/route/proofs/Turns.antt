@@ -111,6 +111,9 @@ module _ {S : Type 0} (ok : S → Need → ℕ → Bool) (next : S → Need → 
         tries-step ∙ ap (λ (k : ℕ). past + k) (none-spent at (okOf e) (afterOf e) (tallyOf (e + 1)) (restOf e) p),
       )
 
+      pub given-room : okOf e ≡ true → past + 1 ≤ countOf
+      given-room given = omega (arith, tries-step, room-spent at (okOf e) (afterOf e) (tallyOf (e + 1)) given (restOf e))
+
       -- r is what the needs after it answer
       module _ (r : WaySearch) (given : okOf e ≡ true) (found : r .way ≡ routedFrom (at + 1) (restOf e)) (counted : r .tries ≡ afterOf e) where
         pub turn-room : past + 1 + r .tries ≤ countOf

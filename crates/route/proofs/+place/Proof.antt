@@ -2,18 +2,14 @@
 -- those that begin with an entry from e on, and what is noted of an entry is that it failed, its kind, and the tries after it. A way that is found gets
 -- this need's entry in front, on the way back; each call has one need fewer left, and none makes more than 19,173,960 tries. Assumes nothing.
 use Prim.Native.Nat.{ℕ, _<_, _≤_, _-_}
-use mathlib.Core.Path.{sym, _∙_}
+use mathlib.Core.Path.{_≡_}
 use mathlib.Core.Logic.{⊎-elim}
-use borrow.Author.Needs.{needs}
 use borrow.Fn.Kinds.{In}
 use borrow.Fn.PlainCycle.{Measures, is, falls, and}
-use native.Mathlib.Omega.{arith}
-use lib.ListN.{getD}
+use lib.ListN.{length}
 use Rattle.route.specs.Table.{ENTRIES}
-use Rattle.route.specs.passes.Search.{mayHave, heldBy}
-use Rattle.route.proofs.Turns.{Left, no-need, no-need-tries, turn-starts, turn-ends, turn-ends-tries, not-given-goes, turn-room, not-found-goes, found-stops, found-stops-tries, nothing-found, skip-room, skip-goes}
-use Rattle.route.proofs.Repeats.{AllNoted, none-noted, noted-next, like-fails}
-use Rattle.route.proofs.Limit.{slice-limit}
+use Rattle.route.proofs.Numbers.{low, below, next-le, fits-2, fits-4, fits-next, one-fewer, fewer-than}
+use Rattle.route.proofs.Placing.{Turn, none-left, starts, ends, not-had, one-more, skip-all, skipped, try-all, stops, failed}
 use Rattle.route.proofs.place.Reads as place
 use Rattle.route.proofs.place.Kinds as place-kinds
 use Rattle.route.proofs.+place.Lts-place as place-lts
@@ -37,7 +33,7 @@ place-below t = and 0 place-kinds.ps (falls 0 place-kinds.ps _<_ μ-place t) pla
 
 abbrev Inv-loop : place-lts.InvT-loop
 Inv-loop table n at held needs need mine tries₀ failed₀ noted₀ made₀ e₀ tries failed noted made e =
-    (e ≤ ENTRIES) × (Left (mayHave table) heldBy ENTRIES held needs n at tries e) × (AllNoted table held needs n at noted made)
+    (at < n) × (n ≤ 8) × (length held ≡ ENTRIES) × Turn table held needs n at tries noted made e
 
 abbrev μ-loop : place-lts.MeasureT-loop
 μ-loop table n at held needs need mine tries₀ failed₀ noted₀ made₀ e₀ tries failed noted made e = ENTRIES - e
@@ -48,139 +44,135 @@ pub +place-spec : {M : Type 1} → statement M
     place.Post
     Inv-loop
     μ-loop
-    (λ c κs. search needs)  -- no-entries-requires
+    (λ c κs. tt)  -- no-entries-requires
     (λ c.
-    let a = c .before .before .args in (
-      c .no-entries .ensures ∙ no-need (mayHave (a .table)) heldBy ENTRIES (a .held) (a .t2) (a .n) (a .at) (c .before .if1 .taken),
-      no-need-tries (mayHave (a .table)) heldBy ENTRIES (a .held) (a .t2) (a .n) (a .at) (c .before .if1 .taken),
-    ))  -- returns
-    (λ c. search needs)  -- mul-need
-    (λ c. search needs)  -- array-copy-out-need
-    (λ c κs. search needs)  -- holder-requires
+    let a = c .before .before .args in
+    let found = none-left (a .table) (a .held) (a .t2) (a .n) (a .at) (c .no-entries .result) (c .no-entries .ensures) (c .before .if1 .taken) in
+    (found .0, found .1))  -- returns
+    (λ c.
+    let s = c .before in
+    let a = s .args in
+    fits-4 (a .at) (low (a .at) (a .n) (below (a .at) (a .n) (s .pre .1 .0) (c .if1 .left)) (s .pre .1 .1)))  -- mul-need
+    (λ c.
+    let s = c .before in
+    let a = s .args in
+    low (a .at) (a .n) (below (a .at) (a .n) (s .pre .1 .0) (c .if1 .left)) (s .pre .1 .1))  -- array-copy-out-need
+    (λ c κs. tt)  -- holder-requires
     (λ c.
     let s = c .before .before .before in
     let a = s .args in
-    let long = s .good .1 .0 .1 .0 .1 in (
-      omega arith,
-      turn-starts (mayHave (a .table)) heldBy ENTRIES (a .held) (a .t2) (a .n) (a .at) (omega arith) (omega (arith, long)),
-      none-noted (a .table) (a .held) (a .t2) (a .n) (a .at),
+    let less = below (a .at) (a .n) (s .pre .1 .0) (c .before .before .if1 .left) in (
+      less,
+      s .pre .1 .1,
+      s .good .1 .1 .1 .1 .0 .1 .0 .1,
+      starts (a .table) (a .held) (a .t2) (a .n) (a .at) less (s .good .1 .0 .1 .0 .1) (s .pre .1 .1),
     ))  -- loop-holds
-    (λ c κs. search needs)  -- may-have-requires
-    (λ c κs. omega arith)  -- failed-like-requires
-    (λ c. search needs)  -- mul-again
-    (λ c. search needs)  -- array-read-again
+    (λ c κs. tt)  -- may-have-requires
+    (λ c κs.
+    let i = c .before .before .before .loop .inv in
+    (i .0, i .1, c .before .before .loop-test .taken))  -- failed-like-requires
+    (λ c. fits-4 (c .before .failed-like .result) (c .if3 .taken))  -- mul-again
+    (λ c. c .if3 .taken)  -- array-read-again
     (λ c.
-    let k = c .before .failed-like in
     let o = c .before .before .before in
     let l = o .before .before in
-    let s = l .before .before .before .before in
-    let a = s .args in
-    let given = sym (o .may-have .ensures) ∙ c .before .before .if2 .taken in
-    let fail = like-fails (a .table) (a .held) (a .t2) (a .n) (a .at) (l .loop .noted) (l .loop .made) (l .loop .inv .2) (omega (arith, s .good .1 .1 .1 .1 .0 .1 .0 .1)) (k .result) (l .loop .e) (omega arith) (omega arith) given (k .ensures (omega arith)) in
-    omega (
-      arith,
-      skip-room (mayHave (a .table)) heldBy ENTRIES (a .held) (a .t2) (a .n) (a .at) (l .loop .tries) (l .loop .e) (l .loop .inv .1) (omega arith) (getD (l .loop .made) (k .result) 0) given (fail .0) (fail .1),
-      slice-limit (a .table) (a .held) (a .t2) (a .at) (a .n) (omega arith),
-    ))  -- add-tries
-    (λ c.
-    let k = c .before .failed-like in
-    let o = c .before .before .before in
-    let l = o .before .before in
-    let s = l .before .before .before .before in
-    let a = s .args in
-    let given = sym (o .may-have .ensures) ∙ c .before .before .if2 .taken in
-    let fail = like-fails (a .table) (a .held) (a .t2) (a .n) (a .at) (l .loop .noted) (l .loop .made) (l .loop .inv .2) (omega (arith, s .good .1 .1 .1 .1 .0 .1 .0 .1)) (k .result) (l .loop .e) (omega arith) (omega arith) given (k .ensures (omega arith)) in
-    omega (
-      arith,
-      skip-room (mayHave (a .table)) heldBy ENTRIES (a .held) (a .t2) (a .n) (a .at) (l .loop .tries) (l .loop .e) (l .loop .inv .1) (omega arith) (getD (l .loop .made) (k .result) 0) given (fail .0) (fail .1),
-      slice-limit (a .table) (a .held) (a .t2) (a .at) (a .n) (omega arith),
-    ))  -- add-tries-2
-    (λ c. search needs)  -- add-e
-    (λ c. search needs)  -- loop-less
-    (λ c.
-    let k = c .before .failed-like in
-    let o = c .before .before .before in
-    let l = o .before .before in
-    let s = l .before .before .before .before in
-    let a = s .args in
-    let given = sym (o .may-have .ensures) ∙ c .before .before .if2 .taken in
-    let fail = like-fails (a .table) (a .held) (a .t2) (a .n) (a .at) (l .loop .noted) (l .loop .made) (l .loop .inv .2) (omega (arith, s .good .1 .1 .1 .1 .0 .1 .0 .1)) (k .result) (l .loop .e) (omega arith) (omega arith) given (k .ensures (omega arith)) in (
-      omega arith,
-      skip-goes (mayHave (a .table)) heldBy ENTRIES (a .held) (a .t2) (a .n) (a .at) (l .loop .tries) (l .loop .e) (l .loop .inv .1) (omega arith) (getD (l .loop .made) (k .result) 0) given (fail .0) (fail .1),
-      l .loop .inv .2,
-    ))  -- loop-again
-    (λ c. search needs)  -- mul-more
-    (λ c. search needs)  -- array-write-more
-    (λ c. search needs)  -- add-place
-    (λ c κs. omega arith)  -- place-requires
-    (λ c.
-    let p = c in
-    let o = p .before .before .before .before in
-    let l = o .before .before in
-    let h = l .before in
     let a = l .before .before .before .before .args in
-    let given = sym (o .may-have .ensures) ∙ p .before .before .before .if2 .taken in
-    omega (
-      arith,
-      turn-room (mayHave (a .table)) heldBy ENTRIES (a .held) (a .t2) (a .n) (a .at) (l .loop .tries) (l .loop .e) (l .loop .inv .1) (omega arith)
-          (p .place .result) given (rw (h .holder .ensures) at (p .place .ensures .0)) (rw (h .holder .ensures) at (p .place .ensures .1)),
-      slice-limit (a .table) (a .held) (a .t2) (a .at) (a .n) (omega arith),
-    ))  -- add-tries-3
+    one-more (a .table) (a .held) (a .t2) (a .n) (a .at) (l .loop .tries) (l .loop .noted) (l .loop .made) (l .loop .e) (l .loop .inv .3) (o .before .loop-test .taken) (o .may-have .result) (o .may-have .ensures) (c .before .before .if2 .taken) (l .loop .inv .1))  -- add-tries
+    (λ c.
+    let k = c .before .failed-like in
+    let o = c .before .before .before in
+    let l = o .before .before in
+    let a = l .before .before .before .before .args in
+    skip-all (a .table) (a .held) (a .t2) (a .n) (a .at) (l .loop .tries) (l .loop .noted) (l .loop .made) (l .loop .e) (l .loop .inv .3) (o .before .loop-test .taken) (o .may-have .result) (o .may-have .ensures) (c .before .before .if2 .taken) (l .loop .inv .2) (k .result) (c .if3 .taken) (k .ensures (c .if3 .taken)) (l .loop .inv .1))  -- add-tries-2
+    (λ c.
+    let l = c .before .before .before .before .before in
+    fits-next (l .loop .e) (c .before .before .before .before .loop-test .taken))  -- add-e
+    (λ c.
+    let l = c .before .before .before .before .before in
+    one-fewer (l .loop .e) ENTRIES (c .before .before .before .before .loop-test .taken))  -- loop-less
+    (λ c.
+    let k = c .before .failed-like in
+    let o = c .before .before .before in
+    let l = o .before .before in
+    let a = l .before .before .before .before .args in
+    let i = l .loop .inv in (
+      i .0,
+      i .1,
+      i .2,
+      skipped (a .table) (a .held) (a .t2) (a .n) (a .at) (l .loop .tries) (l .loop .noted) (l .loop .made) (l .loop .e) (l .loop .inv .3) (o .before .loop-test .taken) (o .may-have .result) (o .may-have .ensures) (c .before .before .if2 .taken) (l .loop .inv .2) (k .result) (c .if3 .taken) (k .ensures (c .if3 .taken)),
+    ))  -- loop-again
+    (λ c.
+    let l = c .before .before .before .before .before in
+    fits-2 (l .loop .e) (c .before .before .before .before .loop-test .taken))  -- mul-more
+    (λ c. c .before .before .before .before .loop-test .taken)  -- array-write-more
+    (λ c.
+    let s = c .before .before .before .before .before .before .before .before .before in
+    let a = s .args in
+    fits-next (a .at) (low (a .at) (a .n) (below (a .at) (a .n) (s .pre .1 .0) (c .before .before .before .before .before .before .before .before .if1 .left)) (s .pre .1 .1)))  -- add-place
+    (λ c κs.
+    let s = c .before .before .before .before .before .before .before .before .before in
+    let a = s .args in
+    let i = c .before .before .before .before .before .loop .inv in (
+      fewer-than (a .at) (a .n) t (s .pre .0) (i .0),
+      (next-le (a .at) (a .n) (i .0), i .1),
+    ))  -- place-requires
+    (λ c.
+    let o = c .before .before .before .before in
+    let l = o .before .before in
+    let a = l .before .before .before .before .args in
+    one-more (a .table) (a .held) (a .t2) (a .n) (a .at) (l .loop .tries) (l .loop .noted) (l .loop .made) (l .loop .e) (l .loop .inv .3) (o .before .loop-test .taken) (o .may-have .result) (o .may-have .ensures) (c .before .before .before .if2 .taken) (l .loop .inv .1))  -- add-tries-3
     (λ c.
     let p = c .before in
     let o = p .before .before .before .before in
     let l = o .before .before in
-    let h = l .before in
+    let h = l .before .holder in
     let a = l .before .before .before .before .args in
-    let given = sym (o .may-have .ensures) ∙ p .before .before .before .if2 .taken in
-    omega (
-      arith,
-      turn-room (mayHave (a .table)) heldBy ENTRIES (a .held) (a .t2) (a .n) (a .at) (l .loop .tries) (l .loop .e) (l .loop .inv .1) (omega arith)
-          (p .place .result) given (rw (h .holder .ensures) at (p .place .ensures .0)) (rw (h .holder .ensures) at (p .place .ensures .1)),
-      slice-limit (a .table) (a .held) (a .t2) (a .at) (a .n) (omega arith),
-    ))  -- add-tries-4
-    (λ c κs. omega arith)  -- with-entry-requires
+    try-all (a .table) (a .held) (a .t2) (a .n) (a .at) (l .loop .tries) (l .loop .noted) (l .loop .made) (l .loop .e) (l .loop .inv .3) (o .before .loop-test .taken) (o .may-have .result) (o .may-have .ensures) (p .before .before .before .if2 .taken)
+    (h .result) (h .ensures) (p .place .result) (p .place .ensures .0) (p .place .ensures .1) (l .loop .inv .1))  -- add-tries-4
+    (λ c κs.
+    let p = c .before .before .before in
+    let o = p .before .before .before .before in
+    let l = o .before .before in
+    let s = l .before .before .before .before in
+    let a = s .args in
+    (low (a .at) (a .n) (below (a .at) (a .n) (s .pre .1 .0) (l .before .before .before .if1 .left)) (s .pre .1 .1), o .before .loop-test .taken))  -- with-entry-requires
     (λ c.
     let p = c .before .before .before .before in
     let o = p .before .before .before .before in
     let l = o .before .before in
-    let h = l .before in
+    let h = l .before .holder in
     let a = l .before .before .before .before .args in
-    let given = sym (o .may-have .ensures) ∙ p .before .before .before .if2 .taken in (
-      c .with-entry .ensures ∙ found-stops (mayHave (a .table)) heldBy ENTRIES (a .held) (a .t2) (a .n) (a .at) (l .loop .tries) (l .loop .e) (l .loop .inv .1) (omega arith)
-          (p .place .result) given (rw (h .holder .ensures) at (p .place .ensures .0)) (rw (h .holder .ensures) at (p .place .ensures .1)) (c .before .if4 .taken),
-      found-stops-tries (mayHave (a .table)) heldBy ENTRIES (a .held) (a .t2) (a .n) (a .at) (l .loop .tries) (l .loop .e) (l .loop .inv .1) (omega arith)
-          (p .place .result) given (rw (h .holder .ensures) at (p .place .ensures .0)) (rw (h .holder .ensures) at (p .place .ensures .1)) (c .before .if4 .taken),
-    ))  -- returns-2
-    (λ c κs. omega arith)  -- kind-of-requires
-    (λ c. search needs)  -- array-write-noted
-    (λ c. search needs)  -- mul-made
-    (λ c. search needs)  -- array-write-made
-    (λ c. search needs)  -- add-e-2
-    (λ c. search needs)  -- loop-less-2
+    let found = stops (a .table) (a .held) (a .t2) (a .n) (a .at) (l .loop .tries) (l .loop .noted) (l .loop .made) (l .loop .e) (l .loop .inv .3) (o .before .loop-test .taken) (o .may-have .result) (o .may-have .ensures) (p .before .before .before .if2 .taken)
+    (h .result) (h .ensures) (p .place .result) (p .place .ensures .0) (p .place .ensures .1) (c .before .if4 .taken) (c .with-entry .result) (c .with-entry .ensures) in
+    (found .0, found .1))  -- returns-2
+    (λ c κs.
+    let i = c .before .before .before .before .before .before .before .before .before .loop .inv in
+    (i .0, i .1))  -- kind-of-requires
+    (λ c. c .before .before .before .before .before .before .before .before .before .loop-test .taken)  -- array-write-noted
+    (λ c.
+    let o = c .before .before .before .before .before .before .before .before .before in
+    fits-4 (o .before .loop .e) (o .loop-test .taken))  -- mul-made
+    (λ c. c .before .before .before .before .before .before .before .before .before .loop-test .taken)  -- array-write-made
+    (λ c. fits-next (c .before .before .before .loop .e) (c .before .before .loop-test .taken))  -- add-e-2
+    (λ c. one-fewer (c .before .before .before .loop .e) ENTRIES (c .before .before .loop-test .taken))  -- loop-less-2
     (λ c.
     let o = c .before in
     let l = o .before .before in
-    let h = l .before in
+    let i = l .loop .inv in
+    let h = l .before .holder in
     let a = l .before .before .before .before .args in
-    ⊎-elim (λ w.
-    let given = sym (o .may-have .ensures) ∙ w .0 .taken in
-    let r = w .3 .result in
-    let found = rw (h .holder .ensures) at (w .3 .ensures .0) in
-    let counted = rw (h .holder .ensures) at (w .3 .ensures .1) in
-    let nothing = nothing-found (mayHave (a .table)) heldBy ENTRIES (a .held) (a .t2) (a .n) (a .at) (l .loop .tries) (l .loop .e) (l .loop .inv .1) (omega arith) r given found counted (w .6 .left) in (
-      omega arith,
-      rw (w .8) (not-found-goes (mayHave (a .table)) heldBy ENTRIES (a .held) (a .t2) (a .n) (a .at) (l .loop .tries) (l .loop .e) (l .loop .inv .1) (omega arith) r given found counted (w .6 .left)),
-      rw (w .10, w .11) (noted-next (a .table) (a .held) (a .t2) (a .n) (a .at) (l .loop .noted) (l .loop .made) (l .loop .inv .2) (l .loop .e) (w .7 .result) (r .tries) (omega arith) given (w .7 .ensures) nothing counted),
-    )) (λ w. (
-      omega arith,
-      rw (w .1) (not-given-goes (mayHave (a .table)) heldBy ENTRIES (a .held) (a .t2) (a .n) (a .at) (l .loop .tries) (l .loop .e) (l .loop .inv .1) (omega arith) (sym (o .may-have .ensures) ∙ w .0 .left)),
-      rw (w .3, w .4) (l .loop .inv .2),
-    )) (c .if2 .came))  -- loop-again-2
-    (λ c κs. search needs)  -- no-entries-requires-2
+    let m = c .if2 in (
+      i .0,
+      i .1,
+      i .2,
+      ⊎-elim (λ w.
+          failed (a .table) (a .held) (a .t2) (a .n) (a .at) (l .loop .tries) (l .loop .noted) (l .loop .made) (l .loop .e) (l .loop .inv .3) (o .before .loop-test .taken) (o .may-have .result) (o .may-have .ensures) (w .0 .taken)
+          (h .result) (h .ensures) (w .3 .result) (w .3 .ensures .0) (w .3 .ensures .1) (w .6 .left) (w .7 .result) (w .7 .ensures) (m .tries) (m .noted) (m .made) (w .8) (w .10) (w .11)) (λ w.
+          not-had (a .table) (a .held) (a .t2) (a .n) (a .at) (l .loop .tries) (l .loop .noted) (l .loop .made) (l .loop .e) (l .loop .inv .3) (o .before .loop-test .taken) (o .may-have .result) (o .may-have .ensures) (w .0 .left) (m .tries) (m .noted) (m .made) (w .1) (w .3) (w .4)) (m .came),
+    ))  -- loop-again-2
+    (λ c κs. tt)  -- no-entries-requires-2
     (λ c.
     let l = c .before .before in
-    let a = l .before .before .before .before .args in (
-      c .no-entries2 .ensures ∙ turn-ends (mayHave (a .table)) heldBy ENTRIES (a .held) (a .t2) (a .n) (a .at) (l .loop .tries) (l .loop .e) (l .loop .inv .1) (c .before .loop-test .left),
-      turn-ends-tries (mayHave (a .table)) heldBy ENTRIES (a .held) (a .t2) (a .n) (a .at) (l .loop .tries) (l .loop .e) (l .loop .inv .1) (c .before .loop-test .left),
-    ))  -- returns-3
+    let a = l .before .before .before .before .args in
+    let found = ends (a .table) (a .held) (a .t2) (a .n) (a .at) (l .loop .tries) (l .loop .noted) (l .loop .made) (l .loop .e) (l .loop .inv .3) (c .before .loop-test .left) (c .no-entries2 .result) (c .no-entries2 .ensures) in
+    (found .0, found .1))  -- returns-3
