@@ -10,10 +10,15 @@ done
 
 rt fmt --check || { echo "test.sh: run 'rt fmt'"; exit 1; }
 
-log=$(mktemp) || exit 2
-trap 'kill $(jobs -p) 2> /dev/null; rm -f "$log"' EXIT
-# More at a time than there are cores: rt waits for all of a batch, and a short check leaves its core to a long one.
-RT_JOBS=${RT_JOBS:-4} rt ci 2>&1 | tee "$log"
+# Temporary files in memory, where there is room: each check copies what it stands on there, thousands of files.
+room=$(df -Pk /dev/shm 2> /dev/null | awk 'NR == 2 { print $4 }')
+[ -n "${TMPDIR-}" ] || [ "${room:-0}" -lt 4000000 ] || export TMPDIR=/dev/shm
+TMPDIR=$(mktemp -d) || exit 2
+export TMPDIR
+trap 'kill $(jobs -p) 2> /dev/null; wait; rm -rf "$TMPDIR"' EXIT
+log=$TMPDIR/log
+
+rt ci 2>&1 | tee "$log"
 [ "${PIPESTATUS[0]}" -eq 0 ] || exit 1
 verdict=$(tail -n 1 "$log")
 case $verdict in
@@ -22,14 +27,31 @@ case $verdict in
 esac
 
 rt staticlib c_api > "$log" 2>&1 || { tail -n 20 "$log"; echo "test.sh: the C library was not built"; exit 1; }
-# The tests of the command take the longest, one short program after the other, so the other tests run beside them.
-long=tests/command/run
-"$long" > "$log" 2>&1 &
+
+# python3 itself, where what is found first is a script that looks for it and takes longer than it does to start.
+PATH=$(dirname "$(python3 -c 'import sys; print(sys.executable)')"):$PATH
+
+# run TEST..: runs tests one after the other, up to the first that fails.
+run() {
+  local check
+  for check in "$@"; do
+    "tests/$check/run" || { echo "test.sh: tests/$check/run failed"; return 1; }
+  done
+}
+
+# Two rows of tests of like length, beside each other.
+first=(command tries words write) second=()
 for check in tests/*/run; do
-  [ "$check" = "$long" ] || "$check" || { echo "test.sh: $check failed"; exit 1; }
+  check=${check#tests/} check=${check%/run}
+  case " ${first[*]} " in
+    *" $check "*) ;;
+    *) second+=("$check") ;;
+  esac
 done
+run "${first[@]}" > "$log" 2>&1 &
+run "${second[@]}" || exit 1
 wait $!
 status=$?
 cat "$log"
-[ "$status" -eq 0 ] || { echo "test.sh: $long failed"; exit 1; }
+[ "$status" -eq 0 ] || exit 1
 echo "$verdict"
