@@ -13,7 +13,7 @@ rt fmt --check || { echo "test.sh: run 'rt fmt'"; exit 1; }
 # Temporary files in memory, where there is room: each check copies what it stands on there, thousands of files.
 room=$(df -Pk /dev/shm 2> /dev/null | awk 'NR == 2 { print $4 }')
 [ -n "${TMPDIR-}" ] || [ "${room:-0}" -lt 4000000 ] || export TMPDIR=/dev/shm
-TMPDIR=$(mktemp -d) || exit 2
+TMPDIR=$(mktemp -d) && chmod 755 "$TMPDIR" || exit 2
 export TMPDIR
 trap 'kill $(jobs -p) 2> /dev/null; wait; rm -rf "$TMPDIR"' EXIT
 log=$TMPDIR/log

@@ -24,7 +24,7 @@ use Rattle.writer.specs.Exercises.{packed, recordChecks, recordsNumber, netlist
 use Rattle.writer.specs.Answers.{placementOf, AnswerPasses}
 use Rattle.settings.specs.Settings.{flags, settingsNumbers, settingsEntries}
 use Rattle.settings.proofs.Laws.{passed, flags-length}
-use Rattle.route.specs.Table.{ENTRIES}
+use Rattle.entries.specs.Table.{ENTRIES}
 use Rattle.writer.specs.Boards.{boardOf, SettingsPass}
 use Rattle.sheet.proofs.Lists.{table-at}
 use Rattle.c_api.specs.Told.{cellTold, cellFields, placeTold, placeFields}

@@ -13,7 +13,7 @@ use Rattle.sheet.specs.Lists.{below}
 use Rattle.sheet.specs.Bytes.{u16At, partAt}
 use Rattle.sheet.proofs.Lists.{map-suc, table-length, store-behind, sets-front}
 use Rattle.sheet.proofs.Checks.{all-held}
-use Rattle.route.specs.Table.{Table, eightRows}
+use Rattle.entries.specs.Table.{Table, eightRows}
 use Rattle.settings.specs.Settings.{tableOf}
 use Rattle.judge.specs.declared.Prepared.{Prepared}
 use Rattle.judge.specs.Call.{call}

@@ -1,5 +1,5 @@
+use entries::EntryTable;
 use judge::Prepared;
-use route::EntryTable;
 ghost use mathlib.Core.Path.{_≡_};
 ghost use mathlib.Core.List.{map};
 ghost use Prim.Native.Nat.{_+_, _<_, _≤_, _^_};

@@ -17,7 +17,7 @@ use Rattle.answer.specs.Answer.{placeStart}
 use Rattle.exercise.specs.declared.Record.{Record}
 use Rattle.exercise.specs.declared.Record.the-variants.{Combinational, Register, Malformed}
 use Rattle.sheet.proofs.Laws.{by-test}
-use Rattle.route.specs.Table.{Table}
+use Rattle.entries.specs.Table.{Table}
 use Rattle.route.specs.Way.{isWay, entryLists, ways, earliestWay}
 use Rattle.lab_nets.specs.NetsIn.{netsIn}
 use Rattle.lab_rules.specs.Ports.{inLab}

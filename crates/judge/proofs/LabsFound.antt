@@ -13,7 +13,7 @@ use Rattle.exercise.specs.Exercise.{cellCount}
 use Rattle.exercise.specs.passes.Known.{knownAt}
 use Rattle.exercise.specs.declared.Record.{Record}
 use Rattle.sheet.proofs.Laws.{by-test}
-use Rattle.route.specs.Table.{Table}
+use Rattle.entries.specs.Table.{Table}
 use Rattle.route.proofs.AllWays.{SameServed}
 use Rattle.lab_rules.specs.Rules.{labChecks, labNumber, routeOf, labResult, labTries}
 use Rattle.lab_rules.specs.passes.Counts.{AllFit}

@@ -12,7 +12,7 @@ use Rattle.exercise.specs.Exercise.{exerciseChecks}
 use Rattle.sheet.proofs.Laws.{by-test}
 use Rattle.exercise.specs.declared.Record.{Record}
 use Rattle.exercise.specs.declared.Record.the-variants.{Combinational, Register, Malformed}
-use Rattle.route.specs.Table.{Table}
+use Rattle.entries.specs.Table.{Table}
 use Rattle.lab_rules.specs.Rules.{labRules, labChecks}
 use Rattle.tables.specs.Records.{cell, cellNumbers}
 use Rattle.netlist.specs.Cells.{checksOf, cellChecks}

@@ -14,7 +14,7 @@ use Rattle.sheet.proofs.Laws.{by-test}
 use Rattle.sheet.proofs.First.{none-first}
 use Rattle.exercise.specs.Exercise.{cellCount}
 use Rattle.exercise.specs.passes.Known.{knownAt}
-use Rattle.route.specs.Table.{Table, eightRows}
+use Rattle.entries.specs.Table.{Table, eightRows}
 use Rattle.route.proofs.AllWays.{SameServed}
 use Rattle.settings.specs.Settings.{settingsNumber, tableOf}
 use Rattle.settings.proofs.Laws.{same-table}

@@ -16,7 +16,7 @@ use Rattle.sheet.proofs.Laws.{by-test}
 use Rattle.sheet.proofs.Lists.{filter-none}
 use Rattle.sheet.proofs.Scan.{any-below}
 use Rattle.tables.specs.Records.{cell, cellNumbers}
-use Rattle.route.specs.Table.{Table}
+use Rattle.entries.specs.Table.{Table}
 use Rattle.route.specs.Way.{Way}
 use Rattle.route.proofs.AllWays.{earliest-some, no-needs}
 use Rattle.lab_rules.specs.Ports.{inLab}

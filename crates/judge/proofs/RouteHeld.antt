@@ -16,8 +16,8 @@ use Rattle.sheet.specs.Bytes.{partAt}
 use Rattle.exercise.specs.Exercise.{cellCount}
 use Rattle.sheet.proofs.First.{some-below}
 use Rattle.sheet.proofs.Scan.{any-below}
-use Rattle.route.specs.declared.Need.{Need}
-use Rattle.route.specs.Table.{Table}
+use Rattle.entries.specs.declared.Need.{Need}
+use Rattle.entries.specs.Table.{Table}
 use Rattle.route.specs.Way.{earliestWay}
 use Rattle.route.specs.Route.{eightBytes, labRouteOf, byteOfNeed, HoldsEarliest}
 use Rattle.lab_rules.specs.Rules.{needs, labChecks, labNumber, routeOf}

@@ -16,7 +16,7 @@ use Rattle.sheet.proofs.Laws.{by-test}
 use Rattle.sheet.proofs.First.{first-most, before-first}
 use Rattle.exercise.specs.Exercise.{cellCount}
 use Rattle.exercise.specs.passes.Known.{knownAt}
-use Rattle.route.specs.Table.{Table}
+use Rattle.entries.specs.Table.{Table}
 use Rattle.route.proofs.AllWays.{SameServed}
 use Rattle.lab_rules.specs.Rules.{labTries}
 use Rattle.lab_rules.specs.passes.Counts.{AllFit}

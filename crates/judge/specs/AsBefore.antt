@@ -7,7 +7,7 @@ use mathlib.Core.Bool.{cond, not}
 use mathlib.Core.List.{List, _∷_, _++_}
 use lib.Dec.{eqb}
 use Rattle.sheet.specs.Lists.{concatMap, below}
-use Rattle.route.specs.Table.{houseBoard}
+use Rattle.entries.specs.Table.{houseBoard}
 use Rattle.settings.specs.House.{houseSettings}
 use Rattle.lab_rules.specs.Rules.{labChecks, routeOf}
 use Rattle.verdict.specs.declared.Verdict.{Verdict}

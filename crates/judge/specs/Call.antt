@@ -1,7 +1,7 @@
 -- What a judgement is given. Assumes nothing.
 use Prim.Native.Nat.{ℕ}
 use mathlib.Core.List.{List}
-use Rattle.route.specs.Table.{Table}
+use Rattle.entries.specs.Table.{Table}
 use Rattle.settings.specs.Settings.{tableOf}
 
 -- "an exercise sheet .., an answer sheet .. and a lent route buffer", the settings sheet of M-102 and the "lent list of 1,024 numbers" of M-106

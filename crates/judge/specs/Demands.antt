@@ -11,7 +11,7 @@ use Rattle.sheet.specs.Lists.{Every, elemb}
 use Rattle.exercise.specs.Exercise.{cellCount, recordStart}
 use Rattle.answer.specs.Answer.{apprentice, placeStart}
 use Rattle.placing.specs.Places.{labAt}
-use Rattle.route.specs.declared.Need.{Need}
+use Rattle.entries.specs.declared.Need.{Need}
 use Rattle.route.specs.Way.{Way, Earlier}
 use Rattle.route.specs.Route.{byteOfNeed}
 use Rattle.lab_rules.specs.Rules.{needs, labRules}

@@ -1,4 +1,4 @@
-use route::EntryTable;
+use entries::EntryTable;
 use sheet::CellNumber;
 pub use sheet::NONE;
 use verdict::Finding;

@@ -11,7 +11,7 @@ use borrow.Author.Tests.{eq-eqb, ne-eqb, lt-ltb, le-ltb, ltb-false}
 use Rattle.sheet.specs.Lists.{firstFrom}
 use Rattle.exercise.specs.declared.Record.{Record}
 use Rattle.sheet.proofs.Scan.{Scanned, scan-starts, scan-goes-at, scan-stops-at, scan-ends}
-use Rattle.route.specs.Table.{Table}
+use Rattle.entries.specs.Table.{Table}
 use Rattle.lab_rules.specs.declared.LabSearch.{LabSearch}
 use Rattle.sheet.specs.Checks.{NONE}
 use Rattle.lab_pass.specs.passes.Links.{walk}

@@ -11,8 +11,8 @@ use lib.Dec.{eqb}
 use Rattle.sheet.specs.Lists.{concatMap, from, below}
 use Rattle.exercise.specs.declared.Record.{Record}
 use Rattle.sheet.proofs.Laws.{by-test}
-use Rattle.route.specs.declared.Need.{Need}
-use Rattle.route.specs.Table.{Table}
+use Rattle.entries.specs.declared.Need.{Need}
+use Rattle.entries.specs.Table.{Table}
 use Rattle.route.specs.Way.{earliestWay}
 use Rattle.route.specs.Route.{eightBytes, labRouteOf}
 use Rattle.lab_nets.specs.passes.Uses.{netsWithin}

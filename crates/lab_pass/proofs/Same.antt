@@ -9,23 +9,14 @@ use borrow.Author.Tests.{eqb-true}
 use Rattle.sheet.proofs.Laws.{and-parts}
 use Rattle.exercise.specs.declared.Record.{Record}
 use Rattle.distinct.specs.declared.UpToTwo.{UpToTwo}
-use Rattle.route.specs.Table.{Table}
+use Rattle.distinct.proofs.Same.{same-codes}
+use Rattle.entries.specs.Table.{Table}
 use Rattle.lab_rules.specs.passes.Counts.{noCounts, searched}
 use Rattle.lab_rules.specs.declared.Counts.{Counts}
 use Rattle.lab_rules.specs.declared.LabSearch.{LabSearch}
 use Rattle.lab_pass.specs.declared.Counted.{Counted}
-use Rattle.lab_pass.specs.passes.Results.{searchOf, sameCodes, sameCounts, sameCounted, Tells}
+use Rattle.lab_pass.specs.passes.Results.{searchOf, sameCounts, sameCounted, Tells}
 use Rattle.lab_pass.proofs.Taking.{nothing-broken}
-
-codes-equal : (n l h m k g : ℕ) → n ≡ m → l ≡ k → h ≡ g → _≡_ {A = UpToTwo} (record { count = n; low = l; high = h }) (record { count = m; low = k; high = g })
-codes-equal n l h m k g p q r = rw (p, q, r)
-
-same-codes : (a b : UpToTwo) → sameCodes a b ≡ true → a ≡ b
-unfolding sameCodes
-same-codes a b h =
-    let p = and-parts _ _ h in
-    let q = and-parts _ _ (p .0) in
-    codes-equal _ _ _ _ _ _ (eqb-true (a .count) (b .count) (q .0)) (eqb-true (a .low) (b .low) (q .1)) (eqb-true (a .high) (b .high) (p .1))
 
 counts-equal : (c p r s e c′ p′ r′ s′ e′ : UpToTwo) → c ≡ c′ → p ≡ p′ → r ≡ r′ → s ≡ s′ → e ≡ e′
     → _≡_ {A = Counts} (record { clocks = c; pairs = p; clears = r; synchronous = s; enables = e })

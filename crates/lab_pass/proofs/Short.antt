@@ -21,7 +21,7 @@ use Rattle.distinct.specs.declared.LabMarks.{LabMarks}
 use Rattle.distinct.specs.passes.Marks.{Marking, marking, Lower}
 use Rattle.distinct.proofs.Rising.{distinct-length}
 use Rattle.distinct.proofs.Nets.{lower-more}
-use Rattle.route.specs.Table.{Table}
+use Rattle.entries.specs.Table.{Table}
 use Rattle.lab_nets.specs.NetsIn.{inputs, netsAt, netsIn}
 use Rattle.lab_nets.specs.passes.Uses.{netsWithin}
 use Rattle.lab_nets.proofs.Cells.{cells-lower, cells-counted}

@@ -12,7 +12,7 @@ use Rattle.exercise.specs.declared.Record.{Record}
 use Rattle.distinct.specs.declared.LabMarks.{LabMarks}
 use Rattle.distinct.specs.passes.Marks.{Marking, markAll}
 use Rattle.distinct.specs.passes.UpToTwo.{codesOf}
-use Rattle.route.specs.Table.{Table}
+use Rattle.entries.specs.Table.{Table}
 use Rattle.route.specs.Route.{eightBytes, labRouteOf}
 use Rattle.route.proofs.AllWays.{no-needs}
 use Rattle.route.proofs.Tries.{no-tries}

@@ -1,9 +1,8 @@
 use distinct::LabMarks;
-use distinct::UpToTwo;
+use entries::EntryTable;
 use exercise::Record;
 use lab_rules::Counts;
 use lab_rules::LabSearch;
-use route::EntryTable;
 use sheet::CellNumber;
 ghost use mathlib.Core.Path.{_≡_};
 ghost use mathlib.Core.Bool.{cond};
@@ -17,7 +16,7 @@ ghost use Rattle.distinct.specs.passes.Marks.{marking, markAll, Lower};
 ghost use Rattle.lab_rules.specs.passes.Counts.{noCounts, countsAll, searched};
 ghost use Rattle.lab_nets.specs.passes.Uses.{usesOf};
 ghost use Rattle.lab_pass.specs.passes.Links.{link, linkBelow, walk};
-ghost use Rattle.lab_pass.specs.passes.Results.{marksOf, markedIf, sameCodes, sameCounts, sameCounted, Tells, resultAt, triesAt, hasCells, lowestBroken, putRow, putRows, putTries, searchedLabs};
+ghost use Rattle.lab_pass.specs.passes.Results.{marksOf, markedIf, sameCounts, sameCounted, Tells, resultAt, triesAt, hasCells, lowestBroken, putRow, putRows, putTries, searchedLabs};
 
 // The number of LABs.
 pub const LABS: u16 = 1024;
@@ -177,24 +176,15 @@ fn counted_from(
     Counted { counts, nets }
 }
 
-// Whether two counters hold the same, and whether all counters do.
-fn same_codes(a: UpToTwo, b: UpToTwo) -> bool
-    ensures { λ r. ⌜ r ≡ sameCodes a b ⌝ }
-{
-    let count = a.count == b.count;
-    let low = a.low == b.low;
-    let high = a.high == b.high;
-    count & low & high
-}
-
+// Whether all counters hold the same.
 fn same_counts(a: Counts, b: Counts) -> bool
     ensures { λ r. ⌜ r ≡ sameCounts a b ⌝ }
 {
-    same_codes(a.clocks, b.clocks)
-        & same_codes(a.pairs, b.pairs)
-        & same_codes(a.clears, b.clears)
-        & same_codes(a.synchronous, b.synchronous)
-        & same_codes(a.enables, b.enables)
+    distinct::same_codes(a.clocks, b.clocks)
+        & distinct::same_codes(a.pairs, b.pairs)
+        & distinct::same_codes(a.clears, b.clears)
+        & distinct::same_codes(a.synchronous, b.synchronous)
+        & distinct::same_codes(a.enables, b.enables)
 }
 
 // Whether the counts and the nets in are those.

@@ -11,7 +11,7 @@ use Rattle.sheet.specs.Checks.{check, firstNumber}
 use Rattle.exercise.specs.declared.Record.{Record}
 use Rattle.sheet.proofs.Laws.{by-test}
 use Rattle.sheet.proofs.Checks.{all-held, in-turn, found}
-use Rattle.route.specs.Table.{Table}
+use Rattle.entries.specs.Table.{Table}
 use Rattle.lab_rules.specs.Rules.{tooManyClocks, tooManyPairs, tooManyClears, tooManySynchronous, noWay, labRules, labChecks, labNumber}
 
 module _ (cs : List Record) where

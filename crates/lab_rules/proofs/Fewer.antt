@@ -8,7 +8,7 @@ use Rattle.exercise.specs.declared.RegisterCell.{RegisterCell}
 use Rattle.exercise.specs.declared.Record.{Record}
 use Rattle.distinct.specs.Rising.{distinct}
 use Rattle.distinct.proofs.Rising.{In, in-append, append-in, rising-part, distinct-mono}
-use Rattle.route.specs.Table.{Table, CLK, ENA, ACLR, SCLR, SLOAD}
+use Rattle.entries.specs.Table.{Table, CLK, ENA, ACLR, SCLR, SLOAD}
 use Rattle.route.specs.Way.{Way}
 use Rattle.route.proofs.Ways.{way-part}
 use Rattle.lab_rules.specs.Ports.{clk, ena, aclr, sclr, sload, needed, ofRegister, inLab}

@@ -21,8 +21,8 @@ use Rattle.distinct.specs.passes.UpToTwo.{upToTwo}
 use Rattle.distinct.proofs.Rising.{In, in-append, append-in, in-map, rising-filter, distinct-image}
 use Rattle.distinct.proofs.Nets.{in-elem}
 use Rattle.distinct.proofs.Codes.{codes-held}
-use Rattle.route.specs.declared.Need.{Need}
-use Rattle.route.specs.Table.{CLK, ENA, ACLR, SCLR, SLOAD}
+use Rattle.entries.specs.declared.Need.{Need}
+use Rattle.entries.specs.Table.{CLK, ENA, ACLR, SCLR, SLOAD}
 use Rattle.lab_nets.specs.NetsIn.{inputs}
 use Rattle.lab_rules.specs.Ports.{clk, ena, aclr, sclr, sload, used, counted, clock, clockPair, clear, pair, inUse, synchronous, needed, inLab}
 use Rattle.lab_rules.specs.Rules.{tooManyClocks, tooManyPairs, tooManyClears, tooManySynchronous, needsOfRole, needs}

@@ -11,8 +11,8 @@ use Rattle.exercise.specs.declared.Record.{Record}
 use Rattle.sheet.proofs.Lists.{filter-same}
 use Rattle.distinct.specs.Rising.{rising}
 use Rattle.distinct.proofs.Order.{rising-brought, elem-brought}
-use Rattle.route.specs.declared.Need.{Need}
-use Rattle.route.specs.Table.{Table}
+use Rattle.entries.specs.declared.Need.{Need}
+use Rattle.entries.specs.Table.{Table}
 use Rattle.route.specs.Way.{earliestWay}
 use Rattle.route.specs.Route.{labRouteOf}
 use Rattle.lab_nets.specs.NetsIn.{inputs, netsAt, netsIn}

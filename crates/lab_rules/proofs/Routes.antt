@@ -12,7 +12,7 @@ use borrow.Author.Tests.{eqb-true, eqb-false}
 use Rattle.sheet.specs.Checks.{firstNumber}
 use Rattle.exercise.specs.declared.Record.{Record}
 use Rattle.sheet.proofs.Laws.{by-test}
-use Rattle.route.specs.Table.{Table}
+use Rattle.entries.specs.Table.{Table}
 use Rattle.route.specs.Way.{Way, earliestWay}
 use Rattle.route.specs.Route.{eightBytes, labRouteOf, HoldsEarliest}
 use Rattle.route.proofs.AllWays.{earliest-none, earliest-some, earliest-found}

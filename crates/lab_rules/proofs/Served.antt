@@ -5,7 +5,7 @@ use mathlib.Core.List.{List, [], _∷_, _++_}
 use mathlib.Core.Option.{Option}
 use Rattle.sheet.specs.Checks.{check, firstNumber}
 use Rattle.exercise.specs.declared.Record.{Record}
-use Rattle.route.specs.Table.{Table}
+use Rattle.entries.specs.Table.{Table}
 use Rattle.route.specs.Route.{labRouteOf}
 use Rattle.route.proofs.AllWays.{SameServed, same-earliest}
 use Rattle.route.proofs.Tries.{same-tries as tries-served}

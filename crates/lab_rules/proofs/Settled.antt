@@ -8,7 +8,7 @@ use lib.ListN.{length}
 use Rattle.sheet.specs.Checks.{check, firstNumber}
 use Rattle.exercise.specs.Record.{outputs}
 use Rattle.exercise.specs.declared.Record.{Record}
-use Rattle.route.specs.Table.{houseBoard}
+use Rattle.entries.specs.Table.{houseBoard}
 use Rattle.route.specs.passes.Search.{pick, searchFrom, foundWay}
 use Rattle.route.proofs.AllWays.{found-earliest}
 use Rattle.lab_nets.specs.NetsIn.{inputs, netsIn}

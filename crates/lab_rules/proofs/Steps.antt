@@ -18,15 +18,15 @@ use Rattle.sheet.proofs.Laws.{by-test}
 use Rattle.sheet.proofs.Lists.{filter-length}
 use Rattle.distinct.specs.declared.UpToTwo.{UpToTwo}
 use Rattle.distinct.specs.passes.UpToTwo.{withCode, withCodes, codesOf}
-use Rattle.route.specs.declared.Need.{Need}
-use Rattle.route.specs.declared.Needs.{Needs}
+use Rattle.entries.specs.declared.Need.{Need}
+use Rattle.entries.specs.declared.Needs.{Needs}
 use Rattle.route.specs.declared.LabRoute.{LabRoute}
 use Rattle.route.specs.declared.RouteSearch.{RouteSearch}
-use Rattle.route.specs.Table.{Table, CLK, ENA, ACLR, SCLR, SLOAD, withNeed, needList, needsOf, noNeeds}
+use Rattle.entries.specs.Table.{Table, CLK, ENA, ACLR, SCLR, SLOAD, withNeed, needList, needsOf, noNeeds}
 use Rattle.route.specs.Way.{earliestWay}
 use Rattle.route.specs.Route.{labRouteOf}
 use Rattle.route.specs.Tries.{tries}
-use Rattle.route.proofs.NeedLists.{no-needs-of, list-needs, with-need}
+use Rattle.entries.proofs.NeedLists.{no-needs-of, list-needs, with-need}
 use Rattle.lab_rules.specs.declared.Counts.{Counts}
 use Rattle.lab_rules.specs.declared.LabSearch.{LabSearch}
 use Rattle.lab_rules.specs.Ports.{clk, ena, used, counted, clock, clockPair, clear, pair, inUse, fixed, pairInUse, synchronous, needed}

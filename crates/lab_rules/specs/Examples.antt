@@ -11,7 +11,7 @@ use Rattle.sheet.specs.declared.Signal.{Signal}
 use Rattle.exercise.specs.declared.Record.{Record}
 use Rattle.exercise.specs.declared.Record.the-variants.{Register}
 use Rattle.distinct.specs.Rising.{distinct}
-use Rattle.route.specs.Table.{houseBoard}
+use Rattle.entries.specs.Table.{houseBoard}
 use Rattle.route.specs.Way.{earliestWay}
 use Rattle.lab_rules.specs.Ports.{pair, clockPair, inLab}
 use Rattle.lab_rules.specs.Rules.{needs, labNumber}

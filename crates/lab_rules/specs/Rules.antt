@@ -10,8 +10,8 @@ use Rattle.sheet.specs.Checks.{Check, check, firstNumber}
 use Rattle.exercise.specs.declared.RegisterCell.{RegisterCell}
 use Rattle.exercise.specs.declared.Record.{Record}
 use Rattle.distinct.specs.Rising.{rising, distinct}
-use Rattle.route.specs.declared.Need.{Need}
-use Rattle.route.specs.Table.{Table, CLK, ENA, ACLR, SCLR, SLOAD}
+use Rattle.entries.specs.declared.Need.{Need}
+use Rattle.entries.specs.Table.{Table, CLK, ENA, ACLR, SCLR, SLOAD}
 use Rattle.route.specs.Way.{earliestWay}
 use Rattle.route.specs.Route.{labRouteOf}
 use Rattle.route.specs.Tries.{tries}

@@ -9,7 +9,7 @@ use Rattle.sheet.specs.Lists.{firstFrom}
 use Rattle.sheet.specs.Bytes.{partAt}
 use Rattle.exercise.specs.Exercise.{cellCount}
 use Rattle.sheet.proofs.Laws.{by-test}
-use Rattle.route.specs.Table.{Table}
+use Rattle.entries.specs.Table.{Table}
 use Rattle.route.specs.Way.{earliestWay}
 use Rattle.lab_rules.specs.Rules.{needs, labChecks, labNumber, routeOf, labResult}
 use Rattle.lab_rules.specs.declared.LabResult.{LabResult}

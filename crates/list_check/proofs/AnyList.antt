@@ -12,7 +12,7 @@ use borrow.Author.Tests.{eqb-true, eqb-false, ne-eqb}
 use Rattle.sheet.specs.Lists.{anyb}
 use Rattle.sheet.proofs.Laws.{by-test, or-parts}
 use Rattle.sheet.proofs.Order.{length-order, test-order}
-use Rattle.route.specs.Table.{Table}
+use Rattle.entries.specs.Table.{Table}
 use Rattle.route.specs.Route.{HoldsEarliest}
 use Rattle.lab_rules.specs.declared.LabResult.{LabResult}
 use Rattle.lab_rules.specs.Rules.{labNumber, routeOf, labResult, noWay}

@@ -18,7 +18,7 @@ use Rattle.exercise.specs.declared.Record.the-variants.{Register}
 use Rattle.sheet.proofs.Laws.{by-test, or-parts}
 use Rattle.distinct.specs.passes.Marks.{Marking, marking, markAll}
 use Rattle.distinct.proofs.Nets.{lower-none}
-use Rattle.route.specs.Table.{Table, eightRows}
+use Rattle.entries.specs.Table.{Table, eightRows}
 use Rattle.settings.specs.Settings.{settingsChecks, settingsNumber, tableOf}
 use Rattle.settings.proofs.Laws.{same-table}
 use Rattle.sheet.proofs.Checks.{in-turn}

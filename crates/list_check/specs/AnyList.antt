@@ -9,7 +9,7 @@ use lib.ListN.{replicate}
 use Rattle.sheet.specs.Checks.{firstNumber}
 use Rattle.exercise.specs.Record.{Cell}
 use Rattle.exercise.specs.declared.Record.{Record}
-use Rattle.route.specs.declared.Need.{Need}
+use Rattle.entries.specs.declared.Need.{Need}
 use Rattle.settings.specs.Settings.{settingsNumber, tableOf}
 use Rattle.route.specs.Way.{Way}
 use Rattle.route.specs.Route.{HoldsEarliest}

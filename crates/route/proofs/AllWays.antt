@@ -13,8 +13,8 @@ use lib.Dec.{eqb}
 use borrow.Author.Tests.{eqb-true, eq-eqb}
 use Rattle.sheet.specs.Lists.{concatMap, filterb, from}
 use Rattle.sheet.proofs.Laws.{by-test, and-parts}
-use Rattle.route.specs.declared.Need.{Need}
-use Rattle.route.specs.Table.{Table, ENTRIES, serves, noRow, eightRows, needAt, needNet}
+use Rattle.entries.specs.declared.Need.{Need}
+use Rattle.entries.specs.Table.{Table, ENTRIES, serves, noRow, eightRows, needAt, needNet}
 use Rattle.route.specs.Way.{Way, Earlier, fits, fitsAll, isWay, entryLists, ways, firstOf, earliestWay}
 use Rattle.route.specs.passes.Search.{attempt, pick, foundWay}
 use Rattle.route.proofs.Search.{First, Begun, first-none, first-some, first-found, first-same, pick-first}

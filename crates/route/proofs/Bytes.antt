@@ -10,10 +10,10 @@ use borrow.Author.Tests.{eq-eqb, ne-eqb}
 use lib.Dec.{eqb}
 use lib.ListN.{length, getD, take, drop, replicate, drop-of-length-le, length-take}
 use lib.Seq.{drop-cons, getD-take}
-use Rattle.route.specs.declared.Need.{Need}
+use Rattle.entries.specs.declared.Need.{Need}
 use Rattle.route.specs.declared.Routed.{Routed}
 use Rattle.route.specs.declared.LabRoute.{LabRoute}
-use Rattle.route.specs.Table.{Table, needAt, noNeed, CLK, ENA, ACLR, SCLR, SLOAD}
+use Rattle.entries.specs.Table.{Table, needAt, noNeed, CLK, ENA, ACLR, SCLR, SLOAD}
 use Rattle.route.specs.Way.{earliestWay}
 use Rattle.route.specs.Route.{entriesFor, byteFor, eightBytes, labRouteOf}
 use Rattle.route.specs.passes.Partial.{routedOf}

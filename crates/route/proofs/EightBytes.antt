@@ -10,8 +10,8 @@ use lib.ListN.{length, getD, take, List·getD-eq-default}
 use lib.Dec.{eqb}
 use borrow.Author.Tests.{eqb-true, eq-eqb}
 use Rattle.sheet.proofs.Laws.{by-test}
-use Rattle.route.specs.declared.Need.{Need}
-use Rattle.route.specs.Table.{needAt}
+use Rattle.entries.specs.declared.Need.{Need}
+use Rattle.entries.specs.Table.{needAt}
 use Rattle.route.specs.Route.{firstByte, needsWith, byteOfNeed, entriesFor, byteFor, eightBytes}
 
 -- how many bytes a role has

@@ -13,9 +13,10 @@ use lib.Seq.{getD-set-same, getD-set-other}
 use borrow.Author.Tests.{eqb-true, eqb-false, eq-eqb, ltb-true, ltb-false, not-true}
 use Rattle.sheet.specs.Lists.{Every, anyb}
 use Rattle.sheet.proofs.Laws.{by-test, or-parts}
-use Rattle.route.specs.declared.Need.{Need}
-use Rattle.route.specs.Table.{Table, serves, needNet}
-use Rattle.route.specs.passes.Search.{pick, searchFrom, tally, triesFrom, holder, mayHave, heldBy, servesOther, isIdle}
+use Rattle.entries.specs.declared.Need.{Need}
+use Rattle.entries.specs.Table.{Table, serves, needNet}
+use Rattle.route.specs.passes.Search.{pick, searchFrom, tally, triesFrom, heldBy, isIdle}
+use Rattle.entries.specs.passes.Entries.{holder, mayHave, servesOther}
 use Rattle.route.proofs.Ways.{Open, open-test, same-mark}
 
 -- ---- the same may be given, and the same is found after each entry

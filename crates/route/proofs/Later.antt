@@ -8,8 +8,8 @@ use native.Mathlib.Omega.{arith}
 use lib.ListN.{length}
 use lib.Seq.{slice, slice-cons, slice-empty}
 use Rattle.sheet.specs.Lists.{anyb}
-use Rattle.route.specs.declared.Need.{Need}
-use Rattle.route.specs.Table.{needAt, noNeed}
+use Rattle.entries.specs.declared.Need.{Need}
+use Rattle.entries.specs.Table.{needAt, noNeed}
 
 module _ (p : Need → Bool) (needs : List Need) (n at : ℕ) where
   -- one of the needs from i to n passes

@@ -6,8 +6,6 @@ pub mod Tries
 pub mod Limit
 mod TriedWays
 pub mod EightBytes
-pub mod NeedLists
-mod Rows
 mod Numbers
 mod Steps
 mod Turns

@@ -9,10 +9,11 @@ use native.Mathlib.Nat.{suc-mul, mul-le-mul, le-trans}
 use native.Mathlib.Omega.{arith}
 use lib.ListN.{length, take, length-take, length-drop}
 use lib.Seq.{slice}
-use Rattle.route.specs.declared.Need.{Need}
-use Rattle.route.specs.Table.{Table, ENTRIES}
+use Rattle.entries.specs.declared.Need.{Need}
+use Rattle.entries.specs.Table.{Table, ENTRIES}
 use Rattle.route.specs.Tries.{tries}
-use Rattle.route.specs.passes.Search.{searchFrom, spent, tally, triesFrom, mayHave, heldBy, triesMade}
+use Rattle.route.specs.passes.Search.{searchFrom, spent, tally, triesFrom, heldBy, triesMade}
+use Rattle.entries.specs.passes.Entries.{mayHave}
 use Rattle.route.proofs.Ways.{none-held}
 use Rattle.route.proofs.Tries.{made-tries}
 

@@ -1,8 +1,8 @@
 -- Document 01's ways are ways, and where all nets are different there is no other. Assumes nothing.
 use Prim.Native.Nat.{ℕ}
 use mathlib.Core.List.{List}
-use Rattle.route.specs.declared.Need.{Need}
-use Rattle.route.specs.Table.{Table}
+use Rattle.entries.specs.declared.Need.{Need}
+use Rattle.entries.specs.Table.{Table}
 use Rattle.route.specs.Way.{Way}
 use Rattle.route.specs.Shared.{OwnWay, DifferentNets, SharingLaw}
 

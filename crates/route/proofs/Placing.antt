@@ -10,11 +10,12 @@ use lib.ListN.{length, getD, set, replicate}
 use lib.Seq.{slice}
 use mir.Syntax.{w32}
 use mir.Val.{Fits}
-use Rattle.route.specs.declared.Need.{Need}
+use Rattle.entries.specs.declared.Need.{Need}
 use Rattle.route.specs.declared.Routed.{Routed}
 use Rattle.route.specs.declared.WaySearch.{WaySearch}
-use Rattle.route.specs.Table.{Table, ENTRIES, needAt}
-use Rattle.route.specs.passes.Search.{searchFrom, triesFrom, holder, mayHave, heldBy, kindOf, failsLike}
+use Rattle.entries.specs.Table.{Table, ENTRIES, needAt}
+use Rattle.route.specs.passes.Search.{searchFrom, triesFrom, heldBy, kindOf, failsLike}
+use Rattle.entries.specs.passes.Entries.{holder, mayHave}
 use Rattle.route.specs.passes.Partial.{noEntries, withEntry, routedFrom}
 use Rattle.route.proofs.Turns.{Left, restOf, afterOf, no-need, no-need-tries, turn-starts, turn-ends, turn-ends-tries, not-given-goes, given-room, turn-room, not-found-goes, found-stops, found-stops-tries, nothing-found, skip-room, skip-goes}
 use Rattle.route.proofs.Repeats.{AllNoted, none-noted, noted-next, like-fails}

@@ -13,9 +13,10 @@ use lib.Seq.{slice, getD-set-same, getD-set-other}
 use borrow.Author.Tests.{eqb-true, eqb-false, eq-eqb, ne-eqb, not-true}
 use Rattle.sheet.specs.Lists.{anyb}
 use Rattle.sheet.proofs.Laws.{by-test, and-parts}
-use Rattle.route.specs.declared.Need.{Need}
-use Rattle.route.specs.Table.{Table, ENTRIES, needAt}
-use Rattle.route.specs.passes.Search.{mayHave, heldBy, servesOther, isIdle, differFor, kindOf, failsLike}
+use Rattle.entries.specs.declared.Need.{Need}
+use Rattle.entries.specs.Table.{Table, ENTRIES, needAt}
+use Rattle.route.specs.passes.Search.{heldBy, isIdle, kindOf, failsLike}
+use Rattle.entries.specs.passes.Entries.{mayHave, servesOther, differFor}
 use Rattle.route.proofs.Ways.{may-parts}
 use Rattle.route.proofs.Turns.{okOf, restOf, afterOf}
 use Rattle.route.proofs.Idle.{idle-finds, idle-tries}

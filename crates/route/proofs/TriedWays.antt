@@ -13,8 +13,8 @@ use lib.Dec.{eqb, ltb}
 use borrow.Author.Tests.{eqb-true, ltb-true, eq-eqb, lt-ltb}
 use Rattle.sheet.specs.Lists.{concatMap, filterb, from}
 use Rattle.sheet.proofs.Laws.{by-test, and-parts}
-use Rattle.route.specs.declared.Need.{Need}
-use Rattle.route.specs.Table.{Table, needAt}
+use Rattle.entries.specs.declared.Need.{Need}
+use Rattle.entries.specs.Table.{Table, needAt}
 use Rattle.route.specs.Way.{Way, earliestWay}
 use Rattle.route.specs.Tries.{isPartialWay, atOrBefore, counts, shortLists, triedWays, PartialWay, Before, AtOrBefore, In, InOrder, TriesLaw}
 use Rattle.route.proofs.Ways.{served-low}

@@ -13,11 +13,12 @@ use borrow.Author.Tests.{eq-eqb, ne-eqb, lt-ltb, le-ltb}
 use Rattle.sheet.specs.Lists.{Every, concatMap, filterb, from}
 use Rattle.sheet.proofs.Laws.{by-test, same-truth, and-parts}
 use Rattle.sheet.proofs.Lists.{filter-append, filter-same, count-map}
-use Rattle.route.specs.declared.Need.{Need}
-use Rattle.route.specs.Table.{Table, serves}
+use Rattle.entries.specs.declared.Need.{Need}
+use Rattle.entries.specs.Table.{Table, serves}
 use Rattle.route.specs.Way.{fitsAll, isWay, earliestWay}
 use Rattle.route.specs.Tries.{isPartialWay, atOrBefore, counts, shortLists, triedWays, tries}
-use Rattle.route.specs.passes.Search.{attempt, pick, searchFrom, spent, tally, triesFrom, mayHave, heldBy, foundWay, triesMade}
+use Rattle.route.specs.passes.Search.{attempt, pick, searchFrom, spent, tally, triesFrom, heldBy, foundWay, triesMade}
+use Rattle.entries.specs.passes.Entries.{mayHave}
 use Rattle.route.proofs.Search.{Given}
 use Rattle.route.proofs.Ways.{served-low, from-start, to-way, none-held}
 use Rattle.route.proofs.AllWays.{SameServed, is-way, way-is, found-earliest, same-earliest}

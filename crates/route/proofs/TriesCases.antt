@@ -2,8 +2,8 @@
 use Prim.Native.Nat.{ℕ, _+_}
 use mathlib.Core.Path.{_≡_, refl, sym, _∙_}
 use mathlib.Core.List.{List, [], _∷_}
-use Rattle.route.specs.declared.Need.{Need}
-use Rattle.route.specs.Table.{houseBoard, CLK, ENA, ACLR, SCLR, SLOAD}
+use Rattle.entries.specs.declared.Need.{Need}
+use Rattle.entries.specs.Table.{houseBoard, CLK, ENA, ACLR, SCLR, SLOAD}
 use Rattle.route.specs.Tries.{tries}
 use Rattle.route.specs.passes.Search.{pick, searchFrom, tally, triesFrom, triesMade}
 use Rattle.route.proofs.Tries.{made-tries}

@@ -10,10 +10,10 @@ use native.Mathlib.Nat.{zero-add}
 use native.Mathlib.Omega.{arith}
 use lib.ListN.{length, replicate}
 use lib.Seq.{slice, slice-cons, slice-empty}
-use Rattle.route.specs.declared.Need.{Need}
+use Rattle.entries.specs.declared.Need.{Need}
 use Rattle.route.specs.declared.Routed.{Routed}
 use Rattle.route.specs.declared.WaySearch.{WaySearch}
-use Rattle.route.specs.Table.{needAt, noNeed}
+use Rattle.entries.specs.Table.{needAt, noNeed}
 use Rattle.route.specs.passes.Search.{pick, searchFrom, spent, tally, triesFrom}
 use Rattle.route.specs.passes.Partial.{withEntry, routedFrom}
 use Rattle.route.proofs.Steps.{pick-step, pick-end, found-none, not-given, not-found, is-found, search-start, search-end, no-entry-left}

@@ -14,9 +14,10 @@ use lib.Seq.{getD-set-same, getD-set-other}
 use borrow.Author.Tests.{eqb-true, eqb-false, eq-eqb, ne-eqb}
 use Rattle.sheet.specs.Lists.{Every, anyb}
 use Rattle.sheet.proofs.Laws.{by-test, or-parts}
-use Rattle.route.specs.declared.Need.{Need}
-use Rattle.route.specs.Table.{Table, serves}
-use Rattle.route.specs.passes.Search.{attempt, pick, searchFrom, tally, triesFrom, holder, mayHave, heldBy, differFor}
+use Rattle.entries.specs.declared.Need.{Need}
+use Rattle.entries.specs.Table.{Table, serves}
+use Rattle.route.specs.passes.Search.{attempt, pick, searchFrom, tally, triesFrom, heldBy}
+use Rattle.entries.specs.passes.Entries.{holder, mayHave, differFor}
 
 -- ---- two numbers in each other's place
 module _ (a b : ℕ) where

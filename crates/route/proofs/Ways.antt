@@ -12,10 +12,11 @@ use lib.Dec.{eqb}
 use lib.Seq.{getD-set-same, getD-set-other}
 use borrow.Author.Tests.{eqb-true, eqb-false, eq-eqb}
 use Rattle.sheet.proofs.Laws.{by-test, and-parts}
-use Rattle.route.specs.declared.Need.{Need}
-use Rattle.route.specs.Table.{Table, serves, needAt, needNet}
+use Rattle.entries.specs.declared.Need.{Need}
+use Rattle.entries.specs.Table.{Table, serves, needAt, needNet}
 use Rattle.route.specs.Way.{Way}
-use Rattle.route.specs.passes.Search.{holder, mayHave, heldBy, foundWay}
+use Rattle.route.specs.passes.Search.{heldBy, foundWay}
+use Rattle.entries.specs.passes.Entries.{holder, mayHave}
 use Rattle.route.proofs.Search.{First, Given, first-same, search-first}
 
 -- ---- one entry

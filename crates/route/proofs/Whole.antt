@@ -7,11 +7,12 @@ use native.Mathlib.Nat.{zero-add, sub-zero, zero-sub, suc-sub-suc}
 use native.Mathlib.Omega.{arith}
 use lib.ListN.{length, set, take, drop, replicate, length-take, length-replicate}
 use lib.Seq.{slice, sets, sets-eq, set-comm, take-all}
-use Rattle.route.specs.declared.Need.{Need}
-use Rattle.route.specs.Table.{Table, ENTRIES}
+use Rattle.entries.specs.declared.Need.{Need}
+use Rattle.entries.specs.Table.{Table, ENTRIES}
 use Rattle.route.specs.Way.{earliestWay}
 use Rattle.route.specs.Tries.{tries}
-use Rattle.route.specs.passes.Search.{searchFrom, triesFrom, mayHave, heldBy, foundWay, triesMade}
+use Rattle.route.specs.passes.Search.{searchFrom, triesFrom, heldBy, foundWay, triesMade}
+use Rattle.entries.specs.passes.Entries.{mayHave}
 use Rattle.route.specs.passes.Partial.{put, routedFrom, routedOf}
 use Rattle.route.proofs.AllWays.{found-earliest, earliest-some}
 use Rattle.route.proofs.Tries.{made-tries}

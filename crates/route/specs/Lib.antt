@@ -1,4 +1,3 @@
-pub mod Table
 pub mod Way
 pub mod Shared
 pub mod Route

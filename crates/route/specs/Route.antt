@@ -8,9 +8,9 @@ use mathlib.Core.Option.{Option, none, some}
 use lib.Dec.{eqb}
 use lib.ListN.{length, getD, take, replicate}
 use Rattle.sheet.specs.Lists.{filterb}
-use Rattle.route.specs.declared.Need.{Need}
+use Rattle.entries.specs.declared.Need.{Need}
 use Rattle.route.specs.declared.LabRoute.{LabRoute}
-use Rattle.route.specs.Table.{Table, needAt, CLK, ENA, ACLR, SCLR, SLOAD}
+use Rattle.entries.specs.Table.{Table, needAt, CLK, ENA, ACLR, SCLR, SLOAD}
 use Rattle.route.specs.Way.{Way, Earlier}
 
 -- the entries that w gives to the needs of role r, in need order

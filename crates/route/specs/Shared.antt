@@ -5,8 +5,8 @@ use mathlib.Core.Path.{_≡_}
 use mathlib.Core.Bool.{true}
 use mathlib.Core.List.{List}
 use lib.ListN.{length, getD}
-use Rattle.route.specs.declared.Need.{Need}
-use Rattle.route.specs.Table.{Table, serves, needAt, needNet}
+use Rattle.entries.specs.declared.Need.{Need}
+use Rattle.entries.specs.Table.{Table, serves, needAt, needNet}
 use Rattle.route.specs.Way.{Way}
 
 -- document 01: "A way gives each need its own entry that serves the role"

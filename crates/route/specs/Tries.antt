@@ -9,8 +9,8 @@ use mathlib.Core.Option.{Option, none, some}
 use lib.Dec.{eqb, ltb}
 use lib.ListN.{length, take}
 use Rattle.sheet.specs.Lists.{concatMap, filterb, below}
-use Rattle.route.specs.declared.Need.{Need}
-use Rattle.route.specs.Table.{Table}
+use Rattle.entries.specs.declared.Need.{Need}
+use Rattle.entries.specs.Table.{Table}
 use Rattle.route.specs.Way.{Way, isWay, earliestWay}
 
 -- "first one or more needs given suitable .. entries", and M-107, "a partial way .. may repeat an entry only for the same net": a way of the first

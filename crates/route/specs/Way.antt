@@ -9,8 +9,8 @@ use mathlib.Core.Option.{Option, none, some}
 use lib.ListN.{length, getD}
 use lib.Dec.{eqb}
 use Rattle.sheet.specs.Lists.{concatMap, filterb, below}
-use Rattle.route.specs.declared.Need.{Need}
-use Rattle.route.specs.Table.{Table, serves, needAt, needNet}
+use Rattle.entries.specs.declared.Need.{Need}
+use Rattle.entries.specs.Table.{Table, serves, needAt, needNet}
 
 -- "A way gives each need .. [an] entry that serves the role": `w` has an entry for each need of `ns`, in their order. M-107 in place of "its own":
 -- "Two needs of the same net may share an entry ..; needs of different nets may not"

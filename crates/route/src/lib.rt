@@ -1,28 +1,20 @@
-use sheet::Signal;
+use entries::ENTRIES;
+use entries::EntryTable;
+use entries::Need;
+use entries::Needs;
 ghost use mathlib.Core.Path.{_≡_};
 ghost use mathlib.Core.Bool.{true, false};
 ghost use Prim.Native.Nat.{_+_, _≤_, _<_};
 ghost use lib.ListN.{getD};
 ghost use lib.Seq.{slice};
-ghost use Rattle.route.specs.Table.{ENTRIES, serves, needAt, needList, noNeeds, withNeed};
+ghost use Rattle.entries.specs.Table.{ENTRIES, needAt, needList};
 ghost use Rattle.route.specs.Way.{earliestWay};
 ghost use Rattle.route.specs.Tries.{tries};
-ghost use Rattle.route.specs.passes.Search.{searchFrom, triesFrom, holder, mayHave, heldBy, servesOther, differFor, kindOf, failsLike};
+ghost use Rattle.route.specs.passes.Search.{searchFrom, triesFrom, heldBy, kindOf, failsLike};
+ghost use Rattle.entries.specs.passes.Entries.{mayHave, servesOther, differFor};
 ghost use Rattle.sheet.specs.Lists.{anyb};
 ghost use Rattle.route.specs.Route.{byteFor, eightBytes, labRouteOf};
 ghost use Rattle.route.specs.passes.Partial.{noEntries, withEntry, routedFrom, routedOf};
-
-// What a register asks of its LAB: an entry of this role for this signal.
-pub struct Need {
-    pub role: u8,
-    pub signal: Signal,
-}
-
-// The needs of a LAB in order: the first `count` of the list.
-pub struct Needs {
-    pub count: usize,
-    pub list: [Need; 8],
-}
 
 // The entry of each need, and 255 past the needs; found says whether there is a way.
 pub struct Routed {
@@ -48,91 +40,6 @@ pub struct RouteSearch {
     pub tries: u32,
 }
 
-// How many control entries a LAB has at most.
-pub const ENTRIES: usize = 8;
-
-// For each entry, whether it serves clk, ena, aclr, sclr, sload. A board with fewer entries has rows that serve nothing.
-pub type EntryTable = [[bool; 5]; ENTRIES];
-
-impl Needs {
-    pub fn none() -> Self
-        ensures { λ r. ⌜ r ≡ noNeeds ⌝ }
-    {
-        Needs {
-            count: 0,
-            list: [Need {
-                role: 0,
-                signal: Signal::UNCONNECTED,
-            }; 8],
-        }
-    }
-
-    // One need more, where there is room for it.
-    pub fn with(self, need: Need) -> Self
-        ensures { λ r. ⌜ r ≡ withNeed self need ⌝ }
-    {
-        let count = self.count;
-        if count < 8 {
-            let mut list = self.list;
-            list[count] = need;
-            return Needs {
-                count: count + 1,
-                list,
-            };
-        }
-        self
-    }
-}
-
-// Whether entry e serves the role.
-fn serves(table: EntryTable, e: usize, role: u8) -> bool
-    ensures { λ r. ⌜ r ≡ serves table e role ⌝ }
-{
-    if e < ENTRIES {
-        let column = role as usize;
-        if column < 5 {
-            return table[e][column];
-        }
-    }
-    false
-}
-
-// What marks an entry that the need has: one more than the number of its net, so never 0.
-fn holder(need: Need) -> u16
-    ensures { λ r. ⌜ r ≡ holder need ⌝ }
-{
-    let signal = need.signal;
-    signal.net() + 1
-}
-
-// What marks entry e, 0 where it is free.
-fn holder_at(held: [u16; ENTRIES], e: usize) -> u16
-    ensures { λ r. ⌜ r ≡ getD held e 0 ⌝ }
-{
-    if e < ENTRIES {
-        return held[e];
-    }
-    0
-}
-
-// Whether the need may have entry e: it serves the role, and no need of another net has it.
-fn may_have(table: EntryTable, held: [u16; ENTRIES], need: Need, e: usize) -> bool
-    ensures { λ r. ⌜ r ≡ mayHave table held need e ⌝ }
-{
-    let mark = holder_at(held, e);
-    let mine = holder(need);
-    serves(table, e, need.role) & ((mark == 0) | (mark == mine))
-}
-
-// Whether entry e serves the other need, which is of another net.
-fn serves_other(table: EntryTable, need: Need, e: usize, other: Need) -> bool
-    ensures { λ r. ⌜ r ≡ servesOther table need e other ⌝ }
-{
-    let mine = need.signal;
-    let its = other.signal;
-    (its.net() != mine.net()) & serves(table, e, other.role)
-}
-
 // Whether entry e serves one of the needs after `at`, up to n, that is of another net.
 fn serves_others(table: EntryTable, needs: [Need; 8], n: usize, at: usize, e: usize) -> bool
     requires { ⌜ (at < n) × (n ≤ 8) ⌝ }
@@ -142,7 +49,7 @@ fn serves_others(table: EntryTable, needs: [Need; 8], n: usize, at: usize, e: us
     let mut i = at + 1;
     while i < n {
         let other = needs[i];
-        if serves_other(table, need, e, other) {
+        if entries::serves_other(table, need, e, other) {
             return true;
         }
         i += 1;
@@ -162,24 +69,13 @@ fn kind_of(
     requires { ⌜ (at < n) × (n ≤ 8) ⌝ }
     ensures { λ r. ⌜ r ≡ kindOf table held (needAt needs at) (slice (at + 1) n needs) e ⌝ }
 {
-    if holder_at(held, e) != 0 {
+    if entries::holder_at(held, e) != 0 {
         return 1;
     }
     if serves_others(table, needs, n, at, e) {
         return 2;
     }
     1
-}
-
-// Whether one of the entries f and e serves the need and the other does not.
-fn differ_for(table: EntryTable, f: usize, e: usize, need: Need) -> bool
-    ensures { λ r. ⌜ r ≡ differFor table f e need ⌝ }
-{
-    let second = serves(table, e, need.role);
-    if serves(table, f, need.role) {
-        return !second;
-    }
-    second
 }
 
 // Whether that is so of one of the needs after `at`, up to n.
@@ -190,7 +86,7 @@ fn differ(table: EntryTable, needs: [Need; 8], n: usize, at: usize, f: usize, e:
     let mut i = at + 1;
     while i < n {
         let other = needs[i];
-        if differ_for(table, f, e, other) {
+        if entries::differ_for(table, f, e, other) {
             return true;
         }
         i += 1;
@@ -290,14 +186,14 @@ fn place(
         return WaySearch { way, tries: 0 };
     }
     let need = needs[at];
-    let mine = holder(need);
+    let mine = entries::holder(need);
     let mut tries: u32 = 0;
     let mut failed = false;
     let mut noted = [0u8; ENTRIES];
     let mut made = [0u32; ENTRIES];
     let mut e: usize = 0;
     while e < ENTRIES {
-        if may_have(table, held, need, e) {
+        if entries::may_have(table, held, need, e) {
             let f = failed_like(failed, noted, table, needs, n, at, held, e);
             if f < ENTRIES {
                 let again = made[f];

@@ -11,7 +11,7 @@ use Rattle.sheet.specs.Lists.{anyb}
 use Rattle.sheet.specs.Bytes.{byteAt}
 use Rattle.sheet.proofs.Laws.{by-test}
 use Rattle.sheet.proofs.Scan.{Unmet, unmet-starts, unmet-goes, unmet-stops, unmet-ends}
-use Rattle.route.specs.Table.{noRow, eightRows}
+use Rattle.entries.specs.Table.{noRow, eightRows}
 use Rattle.settings.specs.Settings.{headOf, flags, rowOf, tableOf}
 
 -- ---- no byte before i has a flag above the five roles

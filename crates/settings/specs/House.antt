@@ -2,7 +2,7 @@
 use Prim.Native.Nat.{ℕ}
 use mathlib.Core.Path.{_≡_}
 use mathlib.Core.List.{List, [], _∷_}
-use Rattle.route.specs.Table.{houseBoard}
+use Rattle.entries.specs.Table.{houseBoard}
 use Rattle.settings.specs.Settings.{version, settingsNumber, tableOf}
 
 -- L X T, version 1, six entries: clk; clk and aclr; clk and ena; ena and sload; aclr and sclr; sclr and sload

@@ -10,7 +10,7 @@ use Rattle.sheet.specs.Lists.{anyb, below}
 use Rattle.sheet.specs.Bytes.{byteAt, u16At, partAt}
 use Rattle.sheet.specs.Checks.{Check, check, firstNumber}
 use Rattle.sheet.specs.Header.{wrongMark}
-use Rattle.route.specs.Table.{Table, ENTRIES}
+use Rattle.entries.specs.Table.{Table, ENTRIES}
 
 abbrev pub version : List ℕ → ℕ
 version s = u16At s 3

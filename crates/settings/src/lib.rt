@@ -1,8 +1,8 @@
-use route::EntryTable;
+use entries::EntryTable;
 ghost use mathlib.Core.Path.{_≡_};
 ghost use Rattle.sheet.specs.Bytes.{byteAt};
 ghost use lib.Dec.{ltb};
-ghost use Rattle.route.specs.Table.{ENTRIES, eightRows};
+ghost use Rattle.entries.specs.Table.{ENTRIES, eightRows};
 ghost use Rattle.settings.specs.Settings.{version, entryCount, board, flagsStart, flags, unknownVersion, wrongSettingsLength, otherFlags, settingsNumber, rowOf, tableOf, settingsNumbers, settingsEntries};
 ghost use Rattle.settings.specs.House.{houseSettings};
 

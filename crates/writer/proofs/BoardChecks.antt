@@ -5,7 +5,7 @@ use mathlib.Core.Bool.{Bool, true, false}
 use lib.ListN.{length}
 use borrow.Author.Tests.{ltb-false, lt-ltb, le-ltb}
 use Rattle.sheet.proofs.Checks.{all-held}
-use Rattle.route.specs.Table.{ENTRIES}
+use Rattle.entries.specs.Table.{ENTRIES}
 use Rattle.settings.specs.Settings.{headOf, otherFlags}
 use Rattle.writer.specs.Boards.{Board, wrongBoard, settingsWriterChecks, settingsRefusal}
 

@@ -14,7 +14,7 @@ use Rattle.sheet.specs.Header.{wrongMark}
 use Rattle.sheet.proofs.Checks.{none-broken, all-held}
 use Rattle.sheet.proofs.Laws.{by-test, or-parts}
 use Rattle.sheet.proofs.Again.{two-again, mark-again}
-use Rattle.route.specs.Table.{ENTRIES}
+use Rattle.entries.specs.Table.{ENTRIES}
 use Rattle.settings.specs.Settings.{version, entryCount, board, headOf, flagsStart, flags}
 use Rattle.settings.specs.Settings.{unknownVersion, wrongSettingsLength, otherFlags, settingsChecks, settingsNumber}
 use Rattle.settings.proofs.Laws.{Passed, passed, flags-length}

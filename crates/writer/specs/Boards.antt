@@ -8,7 +8,7 @@ use lib.ListN.{length}
 use lib.Dec.{eqb, ltb}
 use Rattle.sheet.specs.Bytes.{u16Bytes}
 use Rattle.sheet.specs.Checks.{Check, check, firstNumber}
-use Rattle.route.specs.Table.{ENTRIES}
+use Rattle.entries.specs.Table.{ENTRIES}
 use Rattle.settings.specs.Settings as sheet
 use Rattle.settings.specs.Settings.{headOf, flags, unknownVersion, otherFlags, settingsNumber}
 

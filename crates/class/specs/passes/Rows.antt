@@ -1,7 +1,7 @@
 -- The row of an answer from what was prepared for its exercise. Assumes nothing.
 use Prim.Native.Nat.{ℕ}
 use mathlib.Core.List.{List, [], _∷_}
-use Rattle.route.specs.Table.{Table}
+use Rattle.entries.specs.Table.{Table}
 use Rattle.judge.specs.declared.Prepared.{Prepared}
 use Rattle.verdict.specs.declared.Finding.{Finding}
 use Rattle.verdict.specs.Verdicts.{apprenticeOf}

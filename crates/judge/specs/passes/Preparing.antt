@@ -8,7 +8,7 @@ use lib.Dec.{eqb}
 use Rattle.sheet.specs.Checks.{NONE}
 use Rattle.exercise.specs.Exercise.{cellCount}
 use Rattle.exercise.specs.passes.Known.{knownAt}
-use Rattle.route.specs.Table.{Table}
+use Rattle.entries.specs.Table.{Table}
 use Rattle.tables.specs.passes.Tables.{driversBelow}
 use Rattle.lab_pass.specs.passes.Links.{Links, linkBelow}
 use Rattle.lab_pass.specs.passes.Results.{resultAt, triesAt, lowestBroken, hasCells, putRows, putTries, searchedLabs}

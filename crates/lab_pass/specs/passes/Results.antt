@@ -10,13 +10,13 @@ use Rattle.sheet.specs.Lists.{firstFrom}
 use Rattle.exercise.specs.declared.Record.{Record}
 use Rattle.distinct.specs.declared.LabMarks.{LabMarks}
 use Rattle.distinct.specs.passes.Marks.{Marking}
-use Rattle.route.specs.Table.{Table}
+use Rattle.entries.specs.Table.{Table}
 use Rattle.lab_nets.specs.passes.Uses.{markCells, netsWithin}
 use Rattle.lab_rules.specs.passes.Counts.{noCounts, countsAll, searched}
 use Rattle.lab_rules.specs.declared.LabResult.{LabResult}
 use Rattle.lab_rules.specs.declared.LabSearch.{LabSearch}
 use Rattle.lab_rules.specs.declared.Counts.{Counts}
-use Rattle.distinct.specs.declared.UpToTwo.{UpToTwo}
+use Rattle.distinct.specs.passes.UpToTwo.{sameCodes}
 use Rattle.sheet.specs.Checks.{NONE}
 use Rattle.lab_pass.specs.passes.Links.{walk}
 use Rattle.lab_pass.specs.declared.LowestBroken.{LowestBroken}
@@ -39,10 +39,7 @@ markedIf b l m cs = cond b (markCells l m cs) m
 pub record Tells (cell : ℕ → Record) (is : List ℕ) (k : Counts) (nets : ℕ) : Type 0 where
   pub told : (t : Table) → searched t k nets ≡ searchOf t cell is
 
--- two counters, all counters, and the nets in too, hold the same
-unfoldable pub sameCodes : UpToTwo → UpToTwo → Bool
-sameCodes a b = eqb (a .count) (b .count) && eqb (a .low) (b .low) && eqb (a .high) (b .high)
-
+-- all counters, and the nets in too, hold the same
 unfoldable pub sameCounts : Counts → Counts → Bool
 sameCounts a b =
     sameCodes (a .clocks) (b .clocks) && sameCodes (a .pairs) (b .pairs) && sameCodes (a .clears) (b .clears)

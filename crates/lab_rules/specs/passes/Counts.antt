@@ -15,10 +15,10 @@ use Rattle.exercise.specs.declared.Record.the-variants.{Register}
 use Rattle.distinct.specs.Rising.{rising}
 use Rattle.distinct.specs.passes.UpToTwo.{noCode, withCodes, upToTwo, codesOf}
 use Rattle.distinct.specs.declared.UpToTwo.{UpToTwo}
-use Rattle.route.specs.declared.Need.{Need}
+use Rattle.entries.specs.declared.Need.{Need}
 use Rattle.route.specs.declared.LabRoute.{LabRoute}
-use Rattle.route.specs.declared.Needs.{Needs}
-use Rattle.route.specs.Table.{withNeed, Table, CLK, ENA, ACLR, SCLR, SLOAD}
+use Rattle.entries.specs.declared.Needs.{Needs}
+use Rattle.entries.specs.Table.{withNeed, Table, CLK, ENA, ACLR, SCLR, SLOAD}
 use Rattle.route.specs.Way.{earliestWay}
 use Rattle.route.specs.Route.{labRouteOf}
 use Rattle.route.specs.Tries.{tries}

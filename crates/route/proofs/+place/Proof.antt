@@ -7,7 +7,7 @@ use mathlib.Core.Logic.{⊎-elim}
 use borrow.Fn.Kinds.{In}
 use borrow.Fn.PlainCycle.{Measures, is, falls, and}
 use lib.ListN.{length}
-use Rattle.route.specs.Table.{ENTRIES}
+use Rattle.entries.specs.Table.{ENTRIES}
 use Rattle.route.proofs.Numbers.{low, below, next-le, fits-2, fits-4, fits-next, one-fewer, fewer-than}
 use Rattle.route.proofs.Placing.{Turn, none-left, starts, ends, not-had, one-more, skip-all, skipped, try-all, stops, failed}
 use Rattle.route.proofs.place.Reads as place
@@ -15,8 +15,8 @@ use Rattle.route.proofs.place.Kinds as place-kinds
 use Rattle.route.proofs.+place.Lts-place as place-lts
 use Rattle.route.proofs.no_entries.Reads as no-entries-reads
 use Rattle.route.proofs.with_entry.Reads as with-entry-reads
-use Rattle.route.proofs.holder.Reads as holder-reads
-use Rattle.route.proofs.may_have.Reads as may-have-reads
+use Rattle.entries.proofs.holder.Reads as holder-reads
+use Rattle.entries.proofs.may_have.Reads as may-have-reads
 use Rattle.route.proofs.failed_like.Reads as failed-like-reads
 use Rattle.route.proofs.kind_of.Reads as kind-of-reads
 use Rattle.route.proofs.+place.{statement}

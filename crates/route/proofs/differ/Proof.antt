@@ -1,6 +1,6 @@
 -- `differ` meets its contract. The loop's invariant: of none of the needs before i is it so. Assumes nothing.
 use Prim.Native.Nat.{_-_}
-use Rattle.route.specs.passes.Search.{differFor}
+use Rattle.entries.specs.passes.Entries.{differFor}
 use Rattle.route.proofs.Numbers.{low, fits-4, fits-next, one-fewer}
 use Rattle.route.proofs.Later.{NoneTo, later-starts, later-goes, later-stops, later-ends}
 use Rattle.route.proofs.differ.Statement.{statement}

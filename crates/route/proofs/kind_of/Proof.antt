@@ -4,7 +4,7 @@ use borrow.Author.Needs.{needs}
 use native.Mathlib.Omega.{arith}
 use lib.Seq.{slice}
 use Prim.Native.Nat.{_+_}
-use Rattle.route.specs.Table.{needAt}
+use Rattle.entries.specs.Table.{needAt}
 use Rattle.route.proofs.Repeats.{kind-held, kind-others, kind-none}
 use Rattle.route.proofs.kind_of.Statement.{statement}
 use Rattle.route.proofs.kind_of.Tie as tie

@@ -1,7 +1,7 @@
 -- `serves_others` meets its contract. The loop's invariant: none of the needs before i is of another net and served. Assumes nothing.
 use Prim.Native.Nat.{_-_}
-use Rattle.route.specs.Table.{needAt}
-use Rattle.route.specs.passes.Search.{servesOther}
+use Rattle.entries.specs.Table.{needAt}
+use Rattle.entries.specs.passes.Entries.{servesOther}
 use Rattle.route.proofs.Numbers.{low, fits-4, fits-next, one-fewer}
 use Rattle.route.proofs.Later.{NoneTo, later-starts, later-goes, later-stops, later-ends}
 use Rattle.route.proofs.serves_others.Statement.{statement}

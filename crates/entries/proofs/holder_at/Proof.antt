@@ -3,8 +3,8 @@ use mathlib.Core.Path.{sym}
 use borrow.Author.Needs.{needs}
 use native.Mathlib.Omega.{arith}
 use lib.ListN.{List·getD-eq-default}
-use Rattle.route.proofs.holder_at.Statement.{statement}
-use Rattle.route.proofs.holder_at.Tie as tie
+use Rattle.entries.proofs.holder_at.Statement.{statement}
+use Rattle.entries.proofs.holder_at.Tie as tie
 
 pub holder-at-spec : {M : Type 1} → statement M
 holder-at-spec =

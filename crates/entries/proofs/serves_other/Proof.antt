@@ -1,8 +1,8 @@
 -- `serves_other` meets its contract: what it calls answers the parts of the definition. Assumes nothing.
 use mathlib.Core.Path.{refl}
 use borrow.Author.Needs.{needs}
-use Rattle.route.proofs.serves_other.Statement.{statement}
-use Rattle.route.proofs.serves_other.Tie as tie
+use Rattle.entries.proofs.serves_other.Statement.{statement}
+use Rattle.entries.proofs.serves_other.Tie as tie
 
 pub serves-other-spec : {M : Type 1} → statement M
 serves-other-spec =

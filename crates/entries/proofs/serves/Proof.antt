@@ -4,9 +4,9 @@ use Prim.Native.Nat.{_<_}
 use borrow.Author.Needs.{needs}
 use native.Mathlib.Omega.{arith}
 use lib.ListN.{length}
-use Rattle.route.proofs.Rows.{row-length, no-role, no-entry}
-use Rattle.route.proofs.serves.Statement.{statement}
-use Rattle.route.proofs.serves.Tie as tie
+use Rattle.entries.proofs.Rows.{row-length, no-role, no-entry}
+use Rattle.entries.proofs.serves.Statement.{statement}
+use Rattle.entries.proofs.serves.Tie as tie
 
 returns-2 : tie.Need-returns-2
 returns-2 c =

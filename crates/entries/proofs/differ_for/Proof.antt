@@ -1,8 +1,8 @@
 -- `differ_for` meets its contract: it goes by what the first entry serves, as the definition does. Assumes nothing.
 use mathlib.Core.Path.{refl, sym, _∙_}
 use borrow.Author.Needs.{needs}
-use Rattle.route.proofs.differ_for.Statement.{statement}
-use Rattle.route.proofs.differ_for.Tie as tie
+use Rattle.entries.proofs.differ_for.Statement.{statement}
+use Rattle.entries.proofs.differ_for.Tie as tie
 
 pub differ-for-spec : {M : Type 1} → statement M
 differ-for-spec =

@@ -1,0 +1,2 @@
+pub mod NeedLists
+mod Rows
