@@ -3,7 +3,7 @@
 //! search for a way is a plain one.
 #![forbid(unsafe_code)]
 
-use crate::judge::{Verdict, NONE, ROUTE, TRIES};
+use crate::judge::{labs_of, Labs, Verdict, NONE, ROUTE, TRIES};
 use crate::lent::Parts;
 
 const CELLS: usize = 512;
@@ -694,12 +694,8 @@ impl Board {
     }
 
     #[inline(always)]
-    fn occupied(&self) -> Occupied<'_> {
-        Occupied {
-            groups: &self.occupied,
-            group: 0,
-            left: self.occupied[0],
-        }
+    fn occupied(&self) -> Labs<'_> {
+        labs_of(&self.occupied)
     }
 
     /// The cells of a LAB by kind.
@@ -804,28 +800,6 @@ fn nets_in(
     }
     controls.signals().into_iter().for_each(read);
     count
-}
-
-/// The LABs, rising.
-struct Occupied<'a> {
-    groups: &'a [u64; LABS / 64],
-    group: usize,
-    left: u64,
-}
-
-impl Iterator for Occupied<'_> {
-    type Item = usize;
-
-    #[inline(always)]
-    fn next(&mut self) -> Option<usize> {
-        while self.left == 0 {
-            self.group += 1;
-            self.left = *self.groups.get(self.group)?;
-        }
-        let lab = 64 * self.group + self.left.trailing_zeros() as usize;
-        self.left &= self.left - 1;
-        Some(lab)
-    }
 }
 
 /// Cells of one kind in a LAB.

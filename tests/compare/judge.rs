@@ -636,13 +636,13 @@ fn judge_cells(
 }
 
 /// The LABs whose bits are set, rising.
-struct Labs<'a> {
+pub struct Labs<'a> {
     occupied: &'a [u64; LABS / 64],
     group: usize,
     bits: u64,
 }
 
-fn labs_of(occupied: &[u64; LABS / 64]) -> Labs<'_> {
+pub fn labs_of(occupied: &[u64; LABS / 64]) -> Labs<'_> {
     Labs {
         occupied,
         group: 0,

@@ -2,7 +2,6 @@ use sheet::CellNumber;
 ghost use mathlib.Core.Path.{_≡_};
 ghost use mathlib.Core.Bool.{not};
 ghost use Prim.Native.Nat.{_<_};
-ghost use lib.ListN.{replicate};
 ghost use Rattle.sheet.specs.Lists.{firstFrom};
 ghost use Rattle.placing.specs.Places.{kindAt, samePlace, placeTaken};
 ghost use Rattle.clashes.specs.passes.Keys.{hasKey, keyOf, putKeys, keyTaken, Keyed, FreeTo};

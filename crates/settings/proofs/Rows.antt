@@ -1,18 +1,16 @@
 -- The steps of the scan for other flags, and the eight rows of a sheet's table, read byte by byte. Assumes nothing.
 use Prim.Native.Nat.{ℕ, zero, suc, _+_, _<_, _≤_}
-use native.Mathlib.Omega.{arith}
 use mathlib.Core.Path.{_≡_, refl}
 use mathlib.Core.Bool.{true, false}
 use mathlib.Core.List.{List, [], _∷_, map}
 use lib.ListN.{length, getD}
-use lib.Dec.{ltb, eqb}
+use lib.Dec.{ltb}
 use borrow.Author.Tests.{lt-ltb, le-ltb}
 use Rattle.sheet.specs.Lists.{anyb}
 use Rattle.sheet.specs.Bytes.{byteAt}
-use Rattle.sheet.proofs.Laws.{by-test}
 use Rattle.sheet.proofs.Scan.{Unmet, unmet-starts, unmet-goes, unmet-stops, unmet-ends}
 use Rattle.entries.specs.Table.{noRow, eightRows}
-use Rattle.settings.specs.Settings.{headOf, flags, rowOf, tableOf}
+use Rattle.settings.specs.Settings.{flags, rowOf, tableOf}
 
 -- ---- no byte before i has a flag above the five roles
 pub flags-start : (l : List ℕ) → Unmet (λ f. ltb 31 f) l 0
