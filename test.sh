@@ -15,7 +15,8 @@ room=$(df -Pk /dev/shm 2> /dev/null | awk 'NR == 2 { print $4 }')
 [ -n "${TMPDIR-}" ] || [ "${room:-0}" -lt 4000000 ] || export TMPDIR=/dev/shm
 TMPDIR=$(mktemp -d) && chmod 755 "$TMPDIR" || exit 2
 export TMPDIR
-trap 'kill $(jobs -p) 2> /dev/null; wait; rm -rf "$TMPDIR"' EXIT
+row=
+trap '[ -z "$row" ] || kill -- "-$row" 2> /dev/null; wait; rm -rf "$TMPDIR"' EXIT
 log=$TMPDIR/log
 
 rt ci 2>&1 | tee "$log"
@@ -48,9 +49,13 @@ for check in tests/*/run; do
     *) second+=("$check") ;;
   esac
 done
+# With set -m the first row is a group of processes, which ends as a whole where the second fails.
+set -m
 run "${first[@]}" > "$log" 2>&1 &
+row=$!
+set +m
 run "${second[@]}" || exit 1
-wait $!
+wait "$row"
 status=$?
 cat "$log"
 [ "$status" -eq 0 ] || exit 1

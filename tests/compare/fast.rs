@@ -158,17 +158,23 @@ fn serving(settings: &[u8]) -> Result<Serving, u8> {
     Ok(serving)
 }
 
-/// Net count and records, or the number of 10 to 14.
-fn records(exercise: &[u8]) -> Result<(u16, &[Record]), u8> {
-    let Some((head, rest)) = exercise.split_first_chunk::<9>() else {
-        return Err(10);
+/// A sheet's head and the rest, or a number: `short`, then those of mark and version.
+fn head<const N: usize>(sheet: &[u8], letter: u8, short: u8) -> Result<(&[u8; N], &[u8]), u8> {
+    let Some((head, rest)) = sheet.split_first_chunk::<N>() else {
+        return Err(short);
     };
-    if &head[..3] != b"LXE" {
-        return Err(11);
+    if head[..3] != [b'L', b'X', letter] {
+        return Err(short + 1);
     }
     if word(head, 3) != 1 {
-        return Err(12);
+        return Err(short + 2);
     }
+    Ok((head, rest))
+}
+
+/// Net count and records, or the number of 10 to 14.
+fn records(exercise: &[u8]) -> Result<(u16, &[Record]), u8> {
+    let (head, rest) = head::<9>(exercise, b'E', 10)?;
     let (nets, cells) = (word(head, 5), word(head, 7) as usize);
     if nets > MOST_NETS || cells > CELLS {
         return Err(13);
@@ -181,15 +187,7 @@ fn records(exercise: &[u8]) -> Result<(u16, &[Record]), u8> {
 
 /// The places, or the number of 20 to 25.
 fn places(answer: &[u8], cells: usize) -> Result<&[Place], u8> {
-    let Some((head, rest)) = answer.split_first_chunk::<11>() else {
-        return Err(20);
-    };
-    if &head[..3] != b"LXA" {
-        return Err(21);
-    }
-    if word(head, 3) != 1 {
-        return Err(22);
-    }
+    let (head, rest) = head::<11>(answer, b'A', 20)?;
     if apprentice(head) == 0 {
         return Err(23);
     }
