@@ -1,5 +1,5 @@
-"""Holds the table "From a rule to its proof" of docs/PROVING.md, what docs/READING.md lists and the nine places of docs/DECISIONS.md against the
-repository. Argument: the repository."""
+"""Holds the table "From a rule to its proof" of docs/PROVING.md, and the files that docs/READING.md lists, against the repository. Argument: the
+repository."""
 import re
 import sys
 from pathlib import Path
@@ -145,95 +145,15 @@ faults.extend(f"no must-fail edit {name}, listed under the table" for name in ot
 faults.extend(f"must-fail edit {name} stands in the table and under it" for name in others if name in named["edits"])
 faults.extend(f"must-fail edit {name} is left out" for name in sorted(edits - named["edits"] - set(others)))
 
-# ---- what a reader believes: all that stands directly in specs/ is listed. None of it names what serves the proofs alone, but for the statements that tie
-# a pass to a definition, which nothing else names
-READING = "docs/READING.md"
-
-
-def spec_files(page):
-    return {TOP / name for name in re.findall(r"`(crates/[^`]*\.antt)`", page) if "/specs/" in name}
-
-
-def imports(path):
-    """The files of specs/ that a file names, and the structs and enums that it names as `declared`."""
-    files, types = set(), set()
-    for crate, module in re.findall(r"^use Rattle·(\w+?)(?:·specs\.specs|\.specs)\.([\w.]+?)(?:\.\{| as |\.the-variants|$)", text(path), re.M):
-        if module.startswith("declared."):
-            types.add(f"{crate}::{module.split('.')[1]}")
-        else:
-            files.add(CRATES / crate / "specs" / (module.replace(".", "/") + ".antt"))
-    return files, types
-
-
-def rests_on(path):
-    """All files that a file names, itself among them, and all types."""
-    files, types, waiting = set(), set(), [path]
-    while waiting:
-        path = waiting.pop()
-        if path not in files:
-            files.add(path)
-            more, named_types = imports(path)
-            types |= named_types
-            waiting += more
-    return files, types
-
-
+# ---- what a reader believes: all that stands directly in specs/ is listed, and none of it names what serves the proofs alone
 believed = {path for path in CRATES.glob("*/specs/*.antt") if path.stem not in ("Lib", "passes")}
-listed = spec_files(text(TOP / READING))
-ties = spec_files("\n".join(section(READING, "Where a pass meets a definition")))
-faults.extend(f"{READING} leaves out {path.relative_to(TOP)}" for path in sorted(believed - listed))
-faults.extend(f"{READING} lists {path.relative_to(TOP)}, which is not to be believed" for path in sorted(listed - believed))
-for path in sorted(believed):
-    others = imports(path)[0]
-    if path not in ties and any("passes" in other.parts for other in others):
-        faults.append(f"{path.relative_to(TOP)} names a definition of specs/passes/")
-    faults.extend(f"{path.relative_to(TOP)} names {other.relative_to(TOP)}, which ties a pass to a definition" for other in sorted(others & ties) if path not in ties)
-
-# what the demands rest on, file by file and type by type
-lines = section(READING, "What the demands rest on")
-files, types = rests_on(CRATES / "judge/specs/Demands.antt")
-shown = spec_files("\n".join(lines))
-faults.extend(f"{READING}: the demands rest on {path.relative_to(TOP)} too" for path in sorted(files - shown))
-faults.extend(f"{READING}: the demands do not rest on {path.relative_to(TOP)}" for path in sorted(shown - files))
-shown = set(re.findall(r"`(\w+::\w+)`", "\n".join(lines)))
-faults.extend(f"{READING}: the demands rest on the type {name} too" for name in sorted(types - shown))
-faults.extend(f"{READING}: the demands do not rest on the type {name}" for name in sorted(shown - types))
-
-# one name, one meaning
-defined = {}
-for path in sorted(believed):
-    for name in re.findall(r"^\s*(?:(?:abbrev|unfoldable) pub|pub (?:record|data)) (\S+)", text(path), re.M):
-        defined.setdefault(name, []).append(path)
-faults.extend(f"{name} is defined in {' and '.join(str(path.relative_to(TOP)) for path in paths)}" for name, paths in sorted(defined.items()) if len(paths) > 1)
-
-# a theorem's statement stands in specs/, its proof in the file that is named
-for row in (cells(line) for line in section(READING, "The theorems") if line.startswith("| `")):
-    for name in re.findall(r"`([^`]+)`", row[0]):
-        place = row[1].strip("`")
-        found = stated(name, place.removeprefix("crates/"))
-        match = found and found[1] and re.fullmatch(rf"\s*(?:pub )?{re.escape(name)} : (\w+(?: \w+)*)", found[0][found[1][0]])
-        if not match or not all(word in defined for word in match[1].split()):
-            faults.append(f"{READING}: {place} has no {name} with a statement of specs/")
-
-# the edits that are named exist
-for name in re.findall(r"`(\w+/\w+)`", "\n".join(section(READING, "What shuts out a wrong program"))):
-    if name not in edits:
-        faults.append(f"{READING}: no must-fail edit {name}")
-
-# ---- document 01's nine places: each form stands in the source as docs/DECISIONS.md has it
-places = [re.split(r"(?<!\\)\|", line.strip().strip("|")) for line in section("docs/DECISIONS.md", "Document 01's nine places") if line.startswith("|")][2:]
-forms = 0
-for row in places:
-    place, shown = row[3].strip(), re.findall(r"`([^`]+)`", row[4])
-    path = CRATES / place
-    lines = [line.strip() for line in text(path).split("\n")] if path.is_file() else []
-    faults.extend(f"nine places: no line '{form}' in crates/{place}" for form in (form.replace("\\|", "|") for form in shown) if form not in lines)
-    forms += len(shown)
-if [row[0].strip() for row in places if row[0].strip()] != [str(k) for k in range(1, 10)]:
-    faults.append("docs/DECISIONS.md has not nine places")
+listed = {TOP / name for name in re.findall(r"`(crates/[^`]*\.antt)`", text(TOP / "docs/READING.md")) if "/specs/" in name}
+faults.extend(f"docs/READING.md leaves out {path.relative_to(TOP)}" for path in sorted(believed - listed))
+faults.extend(f"docs/READING.md lists {path.relative_to(TOP)}, which is not to be believed" for path in sorted(listed - believed))
+faults.extend(f"{path.relative_to(TOP)} names a definition of specs/passes/" for path in sorted(believed) if ".passes." in text(path))
 
 if faults:
     print("\n".join(f"rules: {fault}" for fault in faults))
     sys.exit(1)
 counts = ", ".join(f"{len(found)} {kind}" for kind, found in named.items())
-print(f"rules: {len(numbers)} numbers with {counts}; {len(others)} edits of no single rule; {len(believed)} files to believe, {len(files)} of them for the demands; {forms} lines of nine forms")
+print(f"rules: {len(numbers)} numbers with {counts}; {len(others)} edits of no single rule; {len(believed)} files to believe")

@@ -22,7 +22,7 @@ use Rattle.placing.specs.Places.{is_out_of_range, out_of_range_at}
 use Rattle.reader.specs.Reader.{step_of, exercise_step_at, place_step_of, answer_step_at}
 use Rattle.writer.specs.Exercises.{packed, record_checks, records_number, netlist_of, ExercisePasses}
 use Rattle.writer.specs.Answers.{placement_of, AnswerPasses}
-use Rattle.settings.specs.Settings.{flags, settings_fields, settings_entries}
+use Rattle.settings.specs.Settings.{flags, settings_numbers, settings_entries}
 use Rattle.settings.proofs.Laws.{passed, flags_length}
 use Rattle.entries.specs.Table.{ENTRIES}
 use Rattle.writer.specs.Boards.{board_of, SettingsPass}
@@ -76,7 +76,7 @@ places_read a p =
 
 -- what is said of a settings sheet that passes
 board_read : (s : List ℕ) → SettingsPass s → BoardRead s (board_of s)
-unfolding SettingsPass board_of settings_fields settings_entries
+unfolding SettingsPass board_of settings_numbers settings_entries
 board_read s p =
     let whole = passed s p in
     let full = flags_length s whole in

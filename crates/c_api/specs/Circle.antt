@@ -6,7 +6,7 @@ use Rattle.answer.specs.Answer.{apprentice, place_count}
 use Rattle.reader.specs.Reader.{exercise_step_at, answer_step_at}
 use Rattle.writer.specs.Exercises.{Netlist, netlist_of, packed, ExercisePasses}
 use Rattle.writer.specs.Answers.{Placement, placement_of, AnswerPasses}
-use Rattle.settings.specs.Settings.{settings_number, settings_fields, settings_entries}
+use Rattle.settings.specs.Settings.{settings_number, settings_numbers, settings_entries}
 use Rattle.writer.specs.Boards.{Board, board_of, SettingsPass}
 use Rattle.c_api.specs.Told.{cell_told, cell_fields, place_told, place_fields}
 
@@ -27,9 +27,9 @@ pub record PlacesRead (a : List ℕ) (x : Placement) : Type 0 where
 -- the same of a settings sheet: version, board number and as many entries, each as nurimkkot_read_settings gives them
 pub record BoardRead (s : List ℕ) (x : Board) : Type 0 where
   pub told : settings_number s ≡ 0
-  pub version : get_or (settings_fields s) 0 0 ≡ x.version
-  pub board : get_or (settings_fields s) 1 0 ≡ x.number
-  pub count : get_or (settings_fields s) 2 0 ≡ length x.entries
+  pub version : get_or (settings_numbers s) 0 0 ≡ x.version
+  pub board : get_or (settings_numbers s) 1 0 ≡ x.number
+  pub count : get_or (settings_numbers s) 2 0 ≡ length x.entries
   pub each : (i : ℕ) → i < length x.entries → get_or (settings_entries s) i 0 ≡ get_or x.entries i 0
 
 -- with `written_again` of the writer's two laws: read and written again, a sheet has the same bytes

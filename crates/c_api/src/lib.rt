@@ -1,5 +1,5 @@
 ghost use Rattle.std.specs.Prelude.{◌≡◌, cond, ◌+◌, ◌*◌, length};
-ghost use Rattle.settings.specs.Settings.{settings_number, settings_fields, settings_entries};
+ghost use Rattle.settings.specs.Settings.{settings_number, settings_numbers, settings_entries};
 ghost use Rattle.settings.specs.House.{house_settings};
 ghost use Rattle.judge.specs.Call.{call};
 ghost use Rattle.judge.specs.Judge.{judged, routed, tried};
@@ -348,7 +348,7 @@ pub extern "C" fn nurimkkot_read_settings(
     entries: &mut [u8; 8],
 ) -> u8
     ensures number { result ≡ settings_number settings.now }
-    ensures head { numbers.new ≡ settings_fields settings.now }
+    ensures head { numbers.new ≡ settings_numbers settings.now }
     ensures flags { entries.new ≡ settings_entries settings.now }
 {
     *numbers = settings::settings_numbers(settings);

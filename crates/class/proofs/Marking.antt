@@ -13,19 +13,17 @@ use Rattle.sheet.specs.Lists.{below}
 use Rattle.sheet.specs.Bytes.{u16_at, part_at}
 use Rattle.sheet.proofs.Lists.{map-suc, table_length, store_behind, sets_front}
 use Rattle.sheet.proofs.Checks.{all_held}
-use Rattle.entries.specs.Table.{Table}
-use Rattle.entries.specs.passes.Rows.{eight_rows}
+use Rattle.entries.specs.Table.{Table, eight_rows}
 use Rattle.settings.specs.Settings.{table_of}
 use Rattle.judge.specs.declared.Prepared.{Prepared}
 use Rattle.judge.specs.Call.{call}
 use Rattle.verdict.specs.declared.Finding.{Finding}
 use Rattle.judge.specs.Judge.{judged}
 use Rattle.verdict.specs.Verdicts.{verdict_of, numbers_of, apprentice_of}
-use Rattle.judge.specs.Serves.{PreparedServes}
 use Rattle.judge.specs.passes.Preparing.{prepared_for, drivers_for, found_from}
 use Rattle.judge.proofs.Preparing.{prepared_serves}
 use Rattle.class.specs.declared.Marked.{Marked}
-use Rattle.class.specs.Class.{answer_count, start_of, answer_of, answers_on, wrong_lengths, class_checks, class_refusal, marked, class_row, class_rows, rows_after}
+use Rattle.class.specs.Class.{answer_count, start_of, answer_of, answers_on, wrong_lengths, class_checks, refusal, marked, row_of, rows_of, rows_after}
 use Rattle.class.specs.passes.Rows.{row_on, row_from}
 
 -- ---- after i answers the walk stands where the length of answer i does
@@ -96,37 +94,37 @@ row_told t p ds e a f number cell lab apprentice x n c l q = rw (n, c, l, q) (ap
 
 -- what was prepared serves each answer: its row is that of the judge's own verdict
 row_judged : (s e a : List ℕ) → row_from (eight_rows (table_of s)) (prepared_for s e) (drivers_for s e) e a ≡ numbers_of (judged (call s e a 8192 1024))
-unfolding row_from judged verdict_of PreparedServes
-row_judged s e a = ap (row_on a) (prepared_serves s e a)
+unfolding row_from judged verdict_of
+row_judged s e a = ap (row_on a) (prepared_serves s e a 8192 1024 refl refl)
 
 rows_judged : (s e k : List ℕ) (is : List ℕ)
-    → map (λ i. row_from (eight_rows (table_of s)) (prepared_for s e) (drivers_for s e) e (answer_of k i)) is ≡ map (class_row s e) (map (answer_of k) is)
-unfolding class_row
+    → map (λ i. row_from (eight_rows (table_of s)) (prepared_for s e) (drivers_for s e) e (answer_of k i)) is ≡ map (row_of s e) (map (answer_of k) is)
+unfolding row_of
 rows_judged s e k [] = refl
 rows_judged s e k (i ∷ is) = rw (row_judged s e (answer_of k i), rows_judged s e k is)
 
 -- ---- the whole call
-module _ (s e k : List ℕ) (lent : List (List ℕ)) (n : ℕ) (x : n ≡ class_refusal k (length lent)) where
+module _ (s e k : List ℕ) (lent : List (List ℕ)) (n : ℕ) (x : n ≡ refusal k (length lent)) where
   pub class_refused : (n ≡ 0 → ⊥) → (◌≡◌ {A = Marked} (record { number = n; filled = 0 }) (marked k (length lent))) × (lent ≡ rows_after s e k lent)
   unfolding marked rows_after
   class_refused h = (rw (← x, ne_eqb n 0 h), rw (← x, ne_eqb n 0 h))
 
   -- 77: there is a row for each answer
   enough : n ≡ 0 → answer_count k ≤ length lent
-  unfolding class_refusal
+  unfolding refusal
   enough h = ltb-false (length lent) (answer_count k) (all_held (class_checks k (length lent)) refl (sym x ∙ h)).1.1.1.1.1.0
 
-  rows_count : length (class_rows s e k) ≡ answer_count k
-  unfolding class_rows answers_on
-  rows_count = length-map (map (answer_of k) (below (answer_count k))) (class_row s e) ∙ table_length (answer_of k) (answer_count k)
+  rows_count : length (rows_of s e k) ≡ answer_count k
+  unfolding rows_of answers_on
+  rows_count = length-map (map (answer_of k) (below (answer_count k))) (row_of s e) ∙ table_length (answer_of k) (answer_count k)
 
-  rows_are : n ≡ 0 → sets lent 0 (class_rows s e k) ≡ class_rows s e k ++ drop (length (class_rows s e k)) lent
-  rows_are h = sets_front lent (class_rows s e k) (omega (arith, enough h, rows_count))
+  rows_are : n ≡ 0 → sets lent 0 (rows_of s e k) ≡ rows_of s e k ++ drop (length (rows_of s e k)) lent
+  rows_are h = sets_front lent (rows_of s e k) (omega (arith, enough h, rows_count))
 
   pub class_marked : (t : Table) (p : Prepared) (ds : List ℕ) (count : ℕ) (after : List (List ℕ)) → n ≡ 0 → t ≡ eight_rows (table_of s) → p ≡ prepared_for s e → ds ≡ drivers_for s e → count ≡ answer_count k
       → after ≡ sets lent 0 (map (λ i. row_from t p ds e (answer_of k i)) (below count))
       → (◌≡◌ {A = Marked} (record { number = 0; filled = count }) (marked k (length lent))) × (after ≡ rows_after s e k lent)
-  unfolding marked rows_after class_rows answers_on
+  unfolding marked rows_after rows_of answers_on
   class_marked t p ds count after h table made filled c w = (
     rw (← x, h, c),
     rw (← x, h) (w ∙ rw (table, made, filled, c) (ap (λ (rs : List (List ℕ)). sets lent 0 rs) (rows_judged s e k (below (answer_count k))) ∙ rows_are h)),

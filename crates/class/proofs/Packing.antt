@@ -15,7 +15,7 @@ use Rattle.sheet.specs.Header.{wrong_mark, wrong_version}
 use Rattle.sheet.proofs.Lists.{table_length}
 use Rattle.sheet.proofs.Again.{two_again, version_1, mark_again}
 use Rattle.sheet.proofs.Checks.{none_broken, all_held}
-use Rattle.class.specs.Class.{MAX_ANSWERS, answer_count, start_of, answer_of, answers_on, wrong_lengths, class_checks, class_refusal}
+use Rattle.class.specs.Class.{MOST, answer_count, start_of, answer_of, answers_on, wrong_lengths, class_checks, refusal}
 use Rattle.class.specs.Packed.{after_length, class_sheet, ClassSheets}
 
 -- from the length of answer i on, the sheet holds these answers, each after its length, and no more
@@ -79,11 +79,11 @@ module _ (answers : List (List ℕ)) where
       let ends = rw zero-add at (all_read sheet 0 answers all_left).1 in
       rw (count_read, eq-eqb (start_of sheet (length answers)) (length sheet) ends)
 
-  sheet_passes : length answers ≤ MAX_ANSWERS → class_refusal sheet (length answers) ≡ 0
-  unfolding class_refusal wrong_mark wrong_version class_sheet
+  sheet_passes : length answers ≤ MOST → refusal sheet (length answers) ≡ 0
+  unfolding refusal wrong_mark wrong_version class_sheet
   sheet_passes few = none_broken (class_checks sheet (length answers)) (
     le-ltb (length sheet) 7 (omega arith),
-    (refl, (refl, (le-ltb MAX_ANSWERS (answer_count sheet) (omega arith), (lengths_pass, (le-ltb (length answers) (answer_count sheet) (omega arith), tt))))),
+    (refl, (refl, (le-ltb MOST (answer_count sheet) (omega arith), (lengths_pass, (le-ltb (length answers) (answer_count sheet) (omega arith), tt))))),
   )
 
 -- its bytes
@@ -108,7 +108,7 @@ mark_bytes_lem (suc zero) = omega arith
 mark_bytes_lem (suc (suc zero)) = omega arith
 mark_bytes_lem (suc (suc (suc i))) = omega arith
 
-sheet_bytes : (answers : List (List ℕ)) → length answers ≤ MAX_ANSWERS → Every (λ a. (length a < 65536) × AllBytes a) answers → AllBytes (class_sheet answers)
+sheet_bytes : (answers : List (List ℕ)) → length answers ≤ MOST → Every (λ a. (length a < 65536) × AllBytes a) answers → AllBytes (class_sheet answers)
 unfolding class_sheet
 sheet_bytes answers few h =
     let all = concat_map after_length answers in
@@ -148,8 +148,8 @@ module _ (k : List ℕ) (bytes : AllBytes k) where
       drop-cons k 0 0 (omega arith)
       ∙ rw (drop-cons k 1 0 (omega arith), drop-cons k 2 0 (omega arith), drop-cons k 3 0 (omega arith), drop-cons k 4 0 (omega arith))
 
-  sheet_again : (rows : ℕ) → class_refusal k rows ≡ 0 → k ≡ class_sheet (answers_on k)
-  unfolding class_refusal wrong_lengths start_of answers_on class_sheet
+  sheet_again : (rows : ℕ) → refusal k rows ≡ 0 → k ≡ class_sheet (answers_on k)
+  unfolding refusal wrong_lengths start_of answers_on class_sheet
   sheet_again rows h =
       let (short, (mark, (version, (few, (lengths, enough))))) = all_held (class_checks k rows) refl h in
       let long = ltb-false (length k) 7 short in

@@ -15,8 +15,8 @@ use Rattle.class.specs.declared.Marked.{Marked}
 abbrev pub answer_count : List ℕ → ℕ
 answer_count k = u16_at k 5
 
-abbrev pub MAX_ANSWERS : ℕ
-MAX_ANSWERS = 32
+abbrev pub MOST : ℕ
+MOST = 32
 
 -- where the length of answer i stands: of the first after the head's 7 bytes, of each other after the answer before it. One past the last answer it is where
 -- that one ends
@@ -44,28 +44,28 @@ class_checks k rows =
     check 76 (ltb (length k) 7)
     ∷ check 76 (wrong_mark 67 k)
     ∷ check 76 (wrong_version k)
-    ∷ check 76 (ltb MAX_ANSWERS (answer_count k))
+    ∷ check 76 (ltb MOST (answer_count k))
     ∷ check 76 (wrong_lengths k)
     ∷ check 77 (ltb rows (answer_count k))
     ∷ []
 
-unfoldable pub class_refusal : List ℕ → ℕ → ℕ
-class_refusal k rows = first_number (class_checks k rows)
+unfoldable pub refusal : List ℕ → ℕ → ℕ
+refusal k rows = first_number (class_checks k rows)
 
 -- what the call says: the refusal and no row, or 0 and the number of answers
 unfoldable pub marked : List ℕ → ℕ → Marked
-marked k rows = record { number = class_refusal k rows; filled = cond (eqb (class_refusal k rows) 0) (answer_count k) 0 }
+marked k rows = record { number = refusal k rows; filled = cond (eqb (refusal k rows) 0) (answer_count k) 0 }
 
 -- ---- the rows: "one verdict row (no culprit) per answer comes out, equal to what single calls would say with a route buffer of the right size, in order"; M-106: "class rows read
 -- as with a right list"
 
 -- number, cell, LAB and apprentice of the judge's own verdict on the answer `a`
-unfoldable pub class_row : List ℕ → List ℕ → List ℕ → List ℕ
-class_row s e a = numbers_of (judged (call s e a 8192 1024))
+unfoldable pub row_of : List ℕ → List ℕ → List ℕ → List ℕ
+row_of s e a = numbers_of (judged (call s e a 8192 1024))
 
-unfoldable pub class_rows : List ℕ → List ℕ → List ℕ → List (List ℕ)
-class_rows s e k = map (class_row s e) (answers_on k)
+unfoldable pub rows_of : List ℕ → List ℕ → List ℕ → List (List ℕ)
+rows_of s e k = map (row_of s e) (answers_on k)
 
 -- THE LENT ROWS AT EXIT: the answers' rows, and "spare rows stay"; after a refusal "the lent rows are then unchanged"
 unfoldable pub rows_after : List ℕ → List ℕ → List ℕ → List (List ℕ) → List (List ℕ)
-rows_after s e k lent = cond (eqb (class_refusal k (length lent)) 0) (class_rows s e k ++ drop (length (class_rows s e k)) lent) lent
+rows_after s e k lent = cond (eqb (refusal k (length lent)) 0) (rows_of s e k ++ drop (length (rows_of s e k)) lent) lent

@@ -2,7 +2,7 @@ ghost use Rattle.std.specs.Prelude.{◌≡◌, map, ◌+◌, ◌<◌, ◌≤◌,
 ghost use Rattle.std.proofs.lemmas.List.Edits.{sets};
 ghost use Rattle.sheet.specs.Lists.{below};
 ghost use Rattle.sheet.specs.Bytes.{u16_at, part_at};
-ghost use Rattle.class.specs.Class.{answer_count, wrong_lengths, answer_of, class_refusal, marked, rows_after, MAX_ANSWERS};
+ghost use Rattle.class.specs.Class.{answer_count, wrong_lengths, answer_of, refusal, marked, rows_after, MOST};
 ghost use Rattle.class.specs.passes.Rows.{row_from};
 
 use entries::EntryTable;
@@ -34,7 +34,7 @@ fn answer_count(class: &[u8]) -> u16
 }
 
 fn too_many_answers(class: &[u8]) -> bool
-    ensures { result ≡ ltb MAX_ANSWERS (answer_count class.now) }
+    ensures { result ≡ ltb MOST (answer_count class.now) }
 {
     MAX_ANSWERS < answer_count(class)
 }
@@ -78,7 +78,7 @@ fn too_few_rows(class: &[u8], rows: usize) -> bool
 
 // 76 or 77, or 0.
 fn refusal(class: &[u8], rows: usize) -> u8
-    ensures { result ≡ class_refusal class.now rows }
+    ensures { result ≡ refusal class.now rows }
 {
     if class.len() < HEADER {
         return 76;

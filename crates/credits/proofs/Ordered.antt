@@ -13,7 +13,7 @@ use Rattle.sheet.proofs.Scan.{none_at}
 use Rattle.sorting.specs.Sorted.{sorted}
 use Rattle.sorting.proofs.Order.{Ascending, sorted_ascending, sorted_order, sorted_every}
 use Rattle.tablet_log.specs.declared.Entry.{Entry}
-use Rattle.tablet_log.specs.Log.{log_count, entry_at, entries, bad_entry, bad_at}
+use Rattle.tablet_log.specs.Log.{entry_count, entry_at, entries, bad_entry, bad_at}
 use Rattle.tablet_log.specs.Credited.{any_bad}
 use Rattle.credits.specs.passes.Keys.{key_at, entry_of, keys_of}
 use Rattle.credits.proofs.Tallied.{InOrder}
@@ -75,17 +75,17 @@ module _ (l : List ℕ) where
   back i zero h = refl
   back i (suc k) h = rw (key_number i (omega arith), back (suc i) k (omega arith))
 
-  module _ (few : log_count l ≤ 1024) (good : any_bad l ≡ false) where
+  module _ (few : entry_count l ≤ 1024) (good : any_bad l ≡ false) where
     abbrev pub ordered : List Entry
-    ordered = map (entry_of l) (keys_of l (log_count l))
+    ordered = map (entry_of l) (keys_of l (entry_count l))
 
     pub ordered_in_order : InOrder 0 0 ordered
     unfolding keys_of any_bad
     ordered_in_order =
-        let ks = map (key_at l) (below (log_count l)) in
+        let ks = map (key_at l) (below (entry_count l)) in
         in_order (sorted ks) 0 0 0 (λ k f h. (omega arith, λ e. omega arith)) (sorted_ascending ks)
-        (sorted_every Lawful ks (all_lawful 0 (log_count l) (omega arith) (λ j c. none_at (bad_at l) (log_count l) good j (omega arith))))
+        (sorted_every Lawful ks (all_lawful 0 (entry_count l) (omega arith) (λ j c. none_at (bad_at l) (entry_count l) good j (omega arith))))
 
     pub ordered_order : Permᴰ ordered (entries l)
     unfolding keys_of entries
-    ordered_order = rw (← back 0 (log_count l) (omega arith)) (Permᴰ.map (entry_of l) (sorted_order (map (key_at l) (below (log_count l)))))
+    ordered_order = rw (← back 0 (entry_count l) (omega arith)) (Permᴰ.map (entry_of l) (sorted_order (map (key_at l) (below (entry_count l)))))

@@ -13,9 +13,9 @@ use Rattle.sheet.specs.Checks.{check}
 use Rattle.sheet.proofs.Lists.{filter-length, below_length, sets_front}
 use Rattle.sheet.proofs.Checks.{all_held, in_turn}
 use Rattle.tablet_log.specs.declared.Credited.{Credited}
-use Rattle.tablet_log.specs.Log.{log_count, entry_at, entries}
-use Rattle.tablet_log.specs.Minutes.{apprentices, credit_row, credit_rows, covers_none, empty_below, listed_of}
-use Rattle.tablet_log.specs.Credited.{log_over_limit, any_bad, too_many, log_checks, log_number, credit_refusal, filled_with, credited, credits_after, numbers_after}
+use Rattle.tablet_log.specs.Log.{entry_count, entry_at, entries}
+use Rattle.tablet_log.specs.Minutes.{apprentices, row_of, rows_of, covers_none, empty_below, listed_of}
+use Rattle.tablet_log.specs.Credited.{over_limit, any_bad, too_many, log_checks, log_number, refusal, filled_with, credited, credits_after, numbers_after}
 use Rattle.tablet_log.proofs.Order.{order_apprentices, order_rows}
 use Rattle.credits.specs.passes.Keys.{entry_of, keys_of}
 use Rattle.credits.specs.passes.Tally.{no_tally, tally_of, rows_by}
@@ -28,51 +28,51 @@ Outcome l rows numbers r rows' numbers' =
     (r ≡ credited l (length rows) (length numbers)) × ((rows' ≡ credits_after l rows numbers) × (numbers' ≡ numbers_after l rows numbers))
 
 module _ (l : List ℕ) (none : log_number l ≡ 0) where
-  few_entries : log_count l ≤ 1024
-  unfolding log_number log_over_limit
-  few_entries = ltb-false 1024 (log_count l) (all_held (log_checks l) refl none).1.1.1.0
+  few_entries : entry_count l ≤ 1024
+  unfolding log_number over_limit
+  few_entries = ltb-false 1024 (entry_count l) (all_held (log_checks l) refl none).1.1.1.0
 
   good : any_bad l ≡ false
   unfolding log_number
   good = (all_held (log_checks l) refl none).1.1.1.1.1.0
 
   -- there are no more keys than entries
-  pub keys_few : (n : ℕ) → n ≡ log_count l → n ≤ 1024
+  pub keys_few : (n : ℕ) → n ≡ entry_count l → n ≤ 1024
   keys_few n e = omega (arith, few_entries)
 
 -- ---- refused
 module _ (l : List ℕ) (rows : List (List ℕ)) (numbers : List ℕ) where
-  refused_by : (n : ℕ) (r : Credited) → r ≡ record { number = n; rows = 0; entries = 0 } → credit_refusal l (length rows) (length numbers) ≡ n → (n ≡ 0 → ⊥) → Outcome l rows numbers r rows numbers
+  refused_by : (n : ℕ) (r : Credited) → r ≡ record { number = n; rows = 0; entries = 0 } → refusal l (length rows) (length numbers) ≡ n → (n ≡ 0 → ⊥) → Outcome l rows numbers r rows numbers
   unfolding credited credits_after numbers_after
   refused_by n r e k h = let other = ne_eqb n 0 h in (e ∙ rw (k, other), (rw (k, other), rw (k, other)))
 
   -- 87, by either list
   pub refused_rows : (r : Credited) → r ≡ record { number = 87; rows = 0; entries = 0 } → (length rows ≡ 64 → ⊥) → Outcome l rows numbers r rows numbers
-  unfolding credit_refusal
+  unfolding refusal
   refused_rows r e h = refused_by 87 r e (rw (ne_eqb (length rows) 64 h)) (λ z. omega arith)
 
   -- 87
   pub refused_numbers : (r : Credited) → r ≡ record { number = 87; rows = 0; entries = 0 } → length rows ≡ 64 → (length numbers ≡ 1024 → ⊥) → Outcome l rows numbers r rows numbers
-  unfolding credit_refusal
+  unfolding refusal
   refused_numbers r e g h = refused_by 87 r e (rw (eq-eqb (length rows) 64 g, ne_eqb (length numbers) 1024 h)) (λ z. omega arith)
 
   module _ (g : length rows ≡ 64) (h : length numbers ≡ 1024) where
     -- 80 to 85, then 86
-    by_log : credit_refusal l (length rows) (length numbers) ≡ cond (eqb (log_number l) 0) (cond (too_many l) 86 0) (log_number l)
-    unfolding credit_refusal log_number
+    by_log : refusal l (length rows) (length numbers) ≡ cond (eqb (log_number l) 0) (cond (too_many l) 86 0) (log_number l)
+    unfolding refusal log_number
     by_log = rw (eq-eqb (length rows) 64 g, eq-eqb (length numbers) 1024 h) (in_turn (log_checks l) (check 86 (too_many l) ∷ []) refl)
 
     pub refused_log : (n : ℕ) (r : Credited) → n ≡ log_number l → (n ≡ 0 → ⊥) → r ≡ record { number = n; rows = 0; entries = 0 } → Outcome l rows numbers r rows numbers
     refused_log n r k z e = refused_by n r e (by_log ∙ rw (← k, ne_eqb n 0 z)) z
 
     module _ (none : log_number l ≡ 0) where
-      abbrev few : log_count l ≤ 1024
+      abbrev few : entry_count l ≤ 1024
       few = few_entries l none
 
       abbrev all_good : any_bad l ≡ false
       all_good = good l none
 
-      module _ (n : ℕ) (ks : List ℕ) (e : n ≡ log_count l) (k : ks ≡ keys_of l n) (p : ℕ) (q : p ≡ (tally_of no_tally (map (entry_of l) ks)).rows) where
+      module _ (n : ℕ) (ks : List ℕ) (e : n ≡ entry_count l) (k : ks ≡ keys_of l n) (p : ℕ) (q : p ≡ (tally_of no_tally (map (entry_of l) ks)).rows) where
         is_ordered : map (entry_of l) ks ≡ ordered l few all_good
         is_ordered = rw (k, e)
 
@@ -87,22 +87,22 @@ module _ (l : List ℕ) (rows : List (List ℕ)) (numbers : List ℕ) where
             refused_by 86 r f (by_log ∙ rw (none, many)) (λ z. omega arith)
 
         -- ---- filled
-        rows_filled : (rows' : List (List ℕ)) → p ≤ 64 → rows' ≡ rows_by no_tally rows (map (entry_of l) ks) → rows' ≡ filled_with (credit_rows (entries l)) rows
-        unfolding credit_rows
+        rows_filled : (rows' : List (List ℕ)) → p ≤ 64 → rows' ≡ rows_by no_tally rows (map (entry_of l) ks) → rows' ≡ filled_with (rows_of (entries l)) rows
+        unfolding rows_of
         rows_filled rows' c f =
-            let long = length-map (apprentices (entries l)) (credit_row (entries l)) in
+            let long = length-map (apprentices (entries l)) (row_of (entries l)) in
             f ∙ rw is_ordered (tallied (ordered l few all_good) rows (ordered_in_order l few all_good)).1
             ∙ ap (λ (rs : List (List ℕ)). sets rows 0 rs) (order_rows (ordered_order l few all_good))
-            ∙ sets_front rows (credit_rows (entries l)) (omega (arith, long, people))
+            ∙ sets_front rows (rows_of (entries l)) (omega (arith, long, people))
 
         numbers_fit : length (listed_of l) ≤ length numbers
         unfolding empty_below
-        numbers_fit = omega (arith, filter-length (λ i. covers_none (entry_at l i)) (below (log_count l)), below_length (log_count l), few)
+        numbers_fit = omega (arith, filter-length (λ i. covers_none (entry_at l i)) (below (entry_count l)), below_length (entry_count l), few)
 
-        pub lists_filled : (rows' : List (List ℕ)) (numbers' : List ℕ) (m c : ℕ) → p ≤ 64 → rows' ≡ rows_by no_tally rows (map (entry_of l) ks) → m ≡ log_count l
+        pub lists_filled : (rows' : List (List ℕ)) (numbers' : List ℕ) (m c : ℕ) → p ≤ 64 → rows' ≡ rows_by no_tally rows (map (entry_of l) ks) → m ≡ entry_count l
             → c ≡ length (empty_below l m) → numbers' ≡ sets numbers 0 (empty_below l m) → Outcome l rows numbers (record { number = 0; rows = p; entries = c }) rows' numbers'
         unfolding credited credits_after numbers_after too_many
         lists_filled rows' numbers' m c a f b o t =
             let held : ltb 64 (length (apprentices (entries l))) ≡ false = le-ltb 64 (length (apprentices (entries l))) (omega (arith, people)) in
-            let legal : credit_refusal l (length rows) (length numbers) ≡ 0 = by_log ∙ rw (none, held) in
+            let legal : refusal l (length rows) (length numbers) ≡ 0 = by_log ∙ rw (none, held) in
             (rw (legal, people, o, b), (rw legal (rows_filled rows' a f), rw legal (t ∙ rw b (sets_front numbers (listed_of l) numbers_fit))))

@@ -17,7 +17,7 @@ use Rattle.distinct.proofs.Rising.{In, rising_above, in_rising, rising_in, risin
 use Rattle.distinct.proofs.Nets.{elem_in, in_elem, in_from, from_in, from_above}
 use Rattle.distinct.proofs.More.{distinct_run, last_above, rising_last, rising_again}
 use Rattle.tablet_log.specs.declared.Entry.{Entry}
-use Rattle.tablet_log.specs.Minutes.{minutes_of, is_own, own_minutes, credit, apprentices, credit_row, credit_rows}
+use Rattle.tablet_log.specs.Minutes.{minutes_of, is_own, own_minutes, credit, apprentices, row_of, rows_of}
 use Rattle.credits.specs.declared.Tally.{Tally}
 use Rattle.credits.specs.passes.Tally.{no_tally, begun, added, with_entry, larger, tally_of, stored, rows_by}
 
@@ -229,32 +229,32 @@ module _ (es : List Entry) (t : Tally) (o : ℕ) (s : Tallied es t o) (e : Entry
       }
 
   -- ---- the rows that are stored
-  same_row : (b : ℕ) → (e.apprentice ≡ b → ⊥) → credit_row then b ≡ credit_row es b
+  same_row : (b : ℕ) → (e.apprentice ≡ b → ⊥) → row_of then b ≡ row_of es b
   same_row b n = rw (other_more es e b n)
 
-  same_rows : (xs : List ℕ) → ((b : ℕ) → In b xs → b < e.apprentice) → map (credit_row then) xs ≡ map (credit_row es) xs
+  same_rows : (xs : List ℕ) → ((b : ℕ) → In b xs → b < e.apprentice) → map (row_of then) xs ≡ map (row_of es) xs
   same_rows [] h = refl
   same_rows (x ∷ xs) h = rw (same_row x (λ q. omega (arith, h x (inl refl))), same_rows xs (λ b m. h b (inr m)))
 
   -- the rows of those before the apprentice, whatever stands in its own place
   put_last : (lent : List (List ℕ)) (before : List ℕ) (rows : List (List ℕ)) → apprentices then ≡ before ++ (e.apprentice ∷ [])
-      → set rows (length before) (credit_row then e.apprentice) ≡ set (sets lent 0 (map (credit_row es) before)) (length before) (credit_row then e.apprentice)
-      → set rows (length before) (credit_row then e.apprentice) ≡ sets lent 0 (credit_rows then)
-  unfolding credit_rows apprentices
+      → set rows (length before) (row_of then e.apprentice) ≡ set (sets lent 0 (map (row_of es) before)) (length before) (row_of then e.apprentice)
+      → set rows (length before) (row_of then e.apprentice) ≡ sets lent 0 (rows_of then)
+  unfolding rows_of apprentices
   put_last lent before rows q p =
       let a = e.apprentice in
-      let xs = map (credit_row then) before in
-      let kept : map (credit_row then) before ≡ map (credit_row es) before = same_rows before (λ b m. last_above 0 b a before (rw q at (rising_above (names then))) m) in
-      let long : length xs ≡ length before = length-map before (credit_row then) in
-      let all : map (credit_row then) (before ++ (a ∷ [])) ≡ xs ++ (credit_row then a ∷ []) = map-append (credit_row then) before (a ∷ []) in
-      p ∙ rw (← kept, q, all, ← long) (store_behind lent xs (credit_row then a))
+      let xs = map (row_of then) before in
+      let kept : map (row_of then) before ≡ map (row_of es) before = same_rows before (λ b m. last_above 0 b a before (rw q at (rising_above (names then))) m) in
+      let long : length xs ≡ length before = length-map before (row_of then) in
+      let all : map (row_of then) (before ++ (a ∷ [])) ≡ xs ++ (row_of then a ∷ []) = map-append (row_of then) before (a ∷ []) in
+      p ∙ rw (← kept, q, all, ← long) (store_behind lent xs (row_of then a))
 
-  rows_of : {xs : List ℕ} → apprentices es ≡ xs → credit_rows es ≡ map (credit_row es) xs
-  unfolding credit_rows
-  rows_of q = ap (map (credit_row es)) q
+  rows_of_lem : {xs : List ℕ} → apprentices es ≡ xs → rows_of es ≡ map (row_of es) xs
+  unfolding rows_of
+  rows_of_lem q = ap (map (row_of es)) q
 
   at_last : (rows : List (List ℕ)) (before : List ℕ) → apprentices then ≡ before ++ (e.apprentice ∷ [])
-      → stored rows (with_entry t e) ≡ set rows (length before) (credit_row then e.apprentice)
+      → stored rows (with_entry t e) ≡ set rows (length before) (row_of then e.apprentice)
   unfolding stored
   at_last rows before q =
       let w = row_added (begun t e) row_begun in
@@ -262,20 +262,20 @@ module _ (es : List Entry) (t : Tally) (o : ℕ) (s : Tallied es t o) (e : Entry
       let place : (with_entry t e).rows - 1 ≡ length before = omega arith in
       rw (ne_eqb (with_entry t e).rows 0 (λ z. omega arith), place, w.whose, w.minutes)
 
-  pub stored_with : (lent rows : List (List ℕ)) → rows ≡ sets lent 0 (credit_rows es) → stored rows (with_entry t e) ≡ sets lent 0 (credit_rows then)
+  pub stored_with : (lent rows : List (List ℕ)) → rows ≡ sets lent 0 (rows_of es) → stored rows (with_entry t e) ≡ sets lent 0 (rows_of then)
   stored_with lent rows p =
       let a = e.apprentice in
       by_test (eqb a t.apprentice)
       (λ k. let q = eqb-true a t.apprentice k in
       let r = own_last q in
-      let xs = map (credit_row es) r.0 in
-      let all : rows ≡ sets lent 0 (xs ++ (credit_row es a ∷ [])) = p ∙ ap (λ (rs : List (List ℕ)). sets lent 0 rs) (rows_of r.1 ∙ map-append (credit_row es) r.0 (a ∷ [])) in
-      let long : length xs ≡ length r.0 = length-map r.0 (credit_row es) in
-      let here : rows ≡ set (sets lent 0 xs) (length r.0) (credit_row es a) = all ∙ sym (rw long at (store_behind lent xs (credit_row es a))) in
+      let xs = map (row_of es) r.0 in
+      let all : rows ≡ sets lent 0 (xs ++ (row_of es a ∷ [])) = p ∙ ap (λ (rs : List (List ℕ)). sets lent 0 rs) (rows_of_lem r.1 ∙ map-append (row_of es) r.0 (a ∷ [])) in
+      let long : length xs ≡ length r.0 = length-map r.0 (row_of es) in
+      let here : rows ≡ set (sets lent 0 xs) (length r.0) (row_of es a) = all ∙ sym (rw long at (store_behind lent xs (row_of es a))) in
       at_last rows r.0 (own_again q ∙ r.1)
-      ∙ put_last lent r.0 rows (own_again q ∙ r.1) (rw here (set-set (sets lent 0 xs) (length r.0) (credit_row es a) (credit_row then a))))
+      ∙ put_last lent r.0 rows (own_again q ∙ r.1) (rw here (set-set (sets lent 0 xs) (length r.0) (row_of es a) (row_of then a))))
       (λ k. let q = other_last (eqb-false a t.apprentice k) in
-      at_last rows (apprentices es) q ∙ put_last lent (apprentices es) rows q (rw (p ∙ ap (λ (rs : List (List ℕ)). sets lent 0 rs) (rows_of refl))))
+      at_last rows (apprentices es) q ∙ put_last lent (apprentices es) rows q (rw (p ∙ ap (λ (rs : List (List ℕ)). sets lent 0 rs) (rows_of_lem refl))))
 
 -- ---- all entries
 -- entries in order, the first of them not before the apprentice a and, of that one, the minute o
@@ -283,8 +283,8 @@ abbrev pub InOrder : ℕ → ℕ → List Entry → Type 0
 InOrder a o [] = Unit {0}
 InOrder a o (e ∷ es) = (1 ≤ e.apprentice) × (a ≤ e.apprentice) × (a ≡ e.apprentice → o ≤ e.opening) × InOrder e.apprentice e.opening es
 
-all_tallied : (fs es : List Entry) (t : Tally) (o : ℕ) (lent rows : List (List ℕ)) → Tallied es t o → InOrder t.apprentice o fs → rows ≡ sets lent 0 (credit_rows es)
-    → ((tally_of t fs).rows ≡ length (apprentices (es ++ fs))) × (rows_by t rows fs ≡ sets lent 0 (credit_rows (es ++ fs)))
+all_tallied : (fs es : List Entry) (t : Tally) (o : ℕ) (lent rows : List (List ℕ)) → Tallied es t o → InOrder t.apprentice o fs → rows ≡ sets lent 0 (rows_of es)
+    → ((tally_of t fs).rows ≡ length (apprentices (es ++ fs))) × (rows_by t rows fs ≡ sets lent 0 (rows_of (es ++ fs)))
 unfolding tally_of rows_by
 all_tallied [] es t o lent rows s h p = rw (append-nil es) (s.rows, p)
 all_tallied (e ∷ fs) es t o lent rows s h p =
@@ -293,6 +293,6 @@ all_tallied (e ∷ fs) es t o lent rows s h p =
     (rw w.whose h.3) (stored_with es t o s e h.0 h.1 h.2 lent rows p) in
     rw (append_assoc es (e ∷ []) fs) at rest
 
-pub tallied : (fs : List Entry) (lent : List (List ℕ)) → InOrder 0 0 fs → ((tally_of no_tally fs).rows ≡ length (apprentices fs)) × (rows_by no_tally lent fs ≡ sets lent 0 (credit_rows fs))
-unfolding credit_rows apprentices
+pub tallied : (fs : List Entry) (lent : List (List ℕ)) → InOrder 0 0 fs → ((tally_of no_tally fs).rows ≡ length (apprentices fs)) × (rows_by no_tally lent fs ≡ sets lent 0 (rows_of fs))
+unfolding rows_of apprentices
 tallied fs lent h = all_tallied fs [] no_tally 0 lent lent none_tallied h refl

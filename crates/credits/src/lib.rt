@@ -1,6 +1,6 @@
 ghost use Rattle.std.specs.Prelude.{◌≡◌, map, ◌+◌, ◌≤◌, ◌<◌, ◌^◌, length, set};
 ghost use Rattle.sheet.specs.Lists.{below};
-ghost use Rattle.tablet_log.specs.Log.{log_count};
+ghost use Rattle.tablet_log.specs.Log.{entry_count};
 ghost use Rattle.tablet_log.specs.Credited.{log_number, credited, credits_after, numbers_after};
 ghost use Rattle.credits.specs.passes.Keys.{key_at, entry_of, keys_of};
 ghost use Rattle.credits.specs.passes.Tally.{no_tally, begun, added, with_entry, larger, stored, tally_of, rows_by};
@@ -183,7 +183,7 @@ fn credit(log: &[u8], keys: &mut [u64], rows: &mut [Credit], numbers: &mut [u16]
     requires rows_len { length rows.old ≡ 64 }
     requires numbers_len { length numbers.old ≡ 1024 }
     requires log_value { log_number log.now ≡ 0 }
-    requires keys_len { length keys.old ≡ log_count log.now }
+    requires keys_len { length keys.old ≡ entry_count log.now }
     ensures told { result ≡ credited log.now (length rows.old) (length numbers.old) }
     ensures minutes { rows.new ≡ credits_after log.now rows.old numbers.old }
     ensures listed { numbers.new ≡ numbers_after log.now rows.old numbers.old }

@@ -1,6 +1,5 @@
 ghost use Rattle.std.specs.Prelude.{◌≡◌, get_or};
-ghost use Rattle.entries.specs.Table.{serves};
-ghost use Rattle.entries.specs.passes.Rows.{no_needs, with_need};
+ghost use Rattle.entries.specs.Table.{serves, no_needs, with_need};
 ghost use Rattle.entries.specs.passes.Entries.{holder, may_have, serves_other, differ_for};
 
 use sheet::Signal;

@@ -3,7 +3,7 @@ ghost use Rattle.sheet.specs.Bytes.{begins_at};
 ghost use Rattle.sheet.specs.Signal.{connected};
 ghost use Rattle.exercise.specs.Exercise.{over_limit, wrong_exercise_length, net_count, cell_count, exercise_number, record_start, record_part};
 ghost use Rattle.exercise.specs.Record.{code_at, signal_at, combinational_of, register_of, bad_combinational, bad_register, bad_tail, keeps_combinational, keeps_register, record_of, record_at, record_number, record_values, breaks_layout, record_fields};
-ghost use Rattle.exercise.specs.passes.Known.{known_of, known_at, known_number, known_values};
+ghost use Rattle.exercise.specs.passes.Known.{known_of, known_at};
 
 use sheet::{CellNumber, Signal};
 
@@ -277,9 +277,7 @@ fn decode_known(bytes: &[u8]) -> Record
 
 // What the record of a cell says, in an exercise that passes 15; of any other it says what nobody asks.
 pub fn known_record_at(exercise: &[u8], cell: CellNumber) -> Record
-    ensures says { result ≡ known_at exercise.now cell.0 }
-    ensures number { record_number result ≡ known_number exercise.now cell.0 }
-    ensures values { record_values result ≡ known_values exercise.now cell.0 }
+    ensures { result ≡ known_at exercise.now cell.0 }
 {
     decode_known(record_part(exercise, cell))
 }

@@ -34,7 +34,7 @@ use Rattle.verdict.specs.declared.Fault.TheVariants.{ExerciseHead, AnswerHead, P
 use Rattle.verdict.specs.declared.Finding.{Finding}
 use Rattle.verdict.specs.Numbers.{fault_of}
 use Rattle.judge.specs.Call.{Call, in_force}
-use Rattle.judge.specs.Judge.{LocatedCheck, of_cell, of_lab, per_cell, carry_not_next, lab_cells, room_checks, settings_group, exercise_group, answer_group, cell_group, place_group, lab_group, sheet_checks, checks_to51, checks, first_broken, judged}
+use Rattle.judge.specs.Judge.{Check, of_cell, of_lab, per_cell, carry_not_next, lab_cells, room_checks, settings_group, exercise_group, answer_group, cell_group, place_group, lab_group, sheet_checks, checks_to51, checks, first_broken, judged}
 use Rattle.verdict.specs.Verdicts.{finding, legal, first_or, lowest_in, culprit_at, culprit_of, verdict_of}
 use Rattle.judge.specs.Demands.{AllHold, LowestCell}
 use Rattle.judge.specs.Culprit.{Inside, CulpritLaw}
@@ -46,19 +46,19 @@ use Rattle.judge.proofs.Kept.{exercise_length, answer_length, exercise_parts, an
 -- ---- what is true of the first broken check
 module _ (P : Finding → Type 0) where
   -- of two lists in turn: the second one's matters where the first one's checks hold
-  turn : (xs ys : List LocatedCheck) → P (first_broken xs) → (AllHold xs → P (first_broken ys)) → P (first_broken (xs ++ ys))
+  turn : (xs ys : List Check) → P (first_broken xs) → (AllHold xs → P (first_broken ys)) → P (first_broken (xs ++ ys))
   unfolding AllHold
   turn [] ys h g = g tt
   turn (x ∷ xs) ys h g = by_test x.broken (λ b. rw b (rw b at h)) (λ b. rw b (turn xs ys (rw b at h) (λ m. g (b, m))))
 
   module _ (none : P legal) where
     -- of the checks of each cell or LAB in turn
-    each_from : (f : ℕ → List LocatedCheck) (k i : ℕ) → ((j : ℕ) → j < i + k → P (first_broken (f j))) → P (first_broken (concat_map f (from i k)))
+    each_from : (f : ℕ → List Check) (k i : ℕ) → ((j : ℕ) → j < i + k → P (first_broken (f j))) → P (first_broken (concat_map f (from i k)))
     each_from f zero i h = none
     each_from f (suc k) i h =
         turn (f i) (concat_map f (from (suc i) k)) (h i (omega arith)) (λ _. each_from f k (suc i) (λ j m. h j (omega arith)))
 
-    each : (f : ℕ → List LocatedCheck) (k : ℕ) → ((j : ℕ) → j < k → P (first_broken (f j))) → P (first_broken (concat_map f (below k)))
+    each : (f : ℕ → List Check) (k : ℕ) → ((j : ℕ) → j < k → P (first_broken (f j))) → P (first_broken (concat_map f (below k)))
     each f k h = each_from f k 0 (λ j m. h j (omega arith))
 
     -- of one check for each cell
@@ -111,29 +111,28 @@ module _ (c : Call) where
   abbrev a : List ℕ
   a = c.answer
 
-  -- what a finding and the checks before it say, by its fault: the cell is one of the exercise's, the LAB one of the 1,024, or none is named; and the
-  -- sheet is long enough
+  -- what the checks before it say of a finding, by its fault: its sheet is long enough, and its cell is one of the exercise's
   abbrev pub FineAt : Finding → Fault → Type 0
-  FineAt f fault.Call = (f.cell ≡ NONE) × (f.lab ≡ NONE)
-  FineAt f ExerciseHead = (f.cell ≡ NONE) × (f.lab ≡ NONE)
-  FineAt f fault.Record = (f.cell < cell_count e) × (f.lab ≡ NONE) × (length e ≡ record_start (cell_count e))
-  FineAt f AnswerHead = (f.cell ≡ NONE) × (f.lab ≡ NONE)
-  FineAt f Place = (f.cell < cell_count e) × (f.lab ≡ NONE) × (length a ≡ place_start (cell_count e))
-  FineAt f Lab = (f.cell ≡ NONE) × (f.lab < 1024) × (length a ≡ place_start (cell_count e)) × LowestCell c f.lab (lowest_in a (cell_count e) f.lab)
+  FineAt f fault.Call = Unit {0}
+  FineAt f ExerciseHead = Unit {0}
+  FineAt f fault.Record = (f.cell < cell_count e) × (length e ≡ record_start (cell_count e))
+  FineAt f AnswerHead = Unit {0}
+  FineAt f Place = (f.cell < cell_count e) × (length a ≡ place_start (cell_count e))
+  FineAt f Lab = LowestCell c f.lab (lowest_in a (cell_count e) f.lab) × (length a ≡ place_start (cell_count e))
 
   -- of one finding, and of those of all checks of a list
   abbrev pub Fine : Finding → Type 0
   Fine f = FineAt f (fault_of f.number)
 
-  unfoldable AllFine : List LocatedCheck → Type 0
+  unfoldable AllFine : List Check → Type 0
   AllFine ks = Every (λ k. Fine k.finding) ks
 
   legal_fine : Fine legal
   unfolding fault_of
-  legal_fine = (refl, refl)
+  legal_fine = tt
 
   -- of what the first broken check of a list finds
-  found_fine : (ks : List LocatedCheck) → AllFine ks → Fine (first_broken ks)
+  found_fine : (ks : List Check) → AllFine ks → Fine (first_broken ks)
   unfolding AllFine
   found_fine ks h = found Fine legal_fine ks h
 
@@ -197,9 +196,9 @@ module _ (c : Call) where
           (λ _. run Fine legal_fine 51 (carry_not_next e a) (cell_count e) (λ i m. search rules))
 
       -- 60 to 65: a LAB with a cell, and one with none
-      rules_fine : (l : ℕ) → l < 1024 → LowestCell c l (lowest_in a (cell_count e) l) → AllFine (of_lab l (lab_checks (in_force c) (lab_cells c l)))
+      rules_fine : (l : ℕ) → LowestCell c l (lowest_in a (cell_count e) l) → AllFine (of_lab l (lab_checks (in_force c) (lab_cells c l)))
       unfolding AllFine fault_of
-      rules_fine l low m = search rules
+      rules_fine l m = search rules
 
       empty_fine : (l : ℕ) → members a (cell_count e) l ≡ [] → Fine (first_broken (of_lab l (lab_checks (in_force c) (lab_cells c l))))
       unfolding lab_cells
@@ -209,7 +208,7 @@ module _ (c : Call) where
       unfolding lab_group
       labs_fine =
           each Fine legal_fine (λ l. of_lab l (lab_checks (in_force c) (lab_cells c l))) 1024
-          (λ l low. ⊎_elim (λ q. empty_fine l q) (λ m. found_fine _ (rules_fine l low m)) (lowest_cell c l))
+          (λ l _. ⊎_elim (λ q. empty_fine l q) (λ m. found_fine _ (rules_fine l m)) (lowest_cell c l))
 
   -- ---- the groups in turn
   long_exercise : AllHold (exercise_group e) → length e ≡ record_start (cell_count e)
@@ -249,7 +248,7 @@ module _ (c : Call) where
   inside_at f fault.Record h = omega arith
   inside_at f AnswerHead h = omega arith
   inside_at f Place h = omega arith
-  inside_at f Lab h = omega (arith, h.3.is_cell)
+  inside_at f Lab h = omega (arith, h.0.is_cell)
 
 pub culprit_inside : CulpritLaw
 unfolding CulpritLaw judged verdict_of culprit_of

@@ -1,17 +1,17 @@
--- Demand 1 holds: the verdict has a number of the table, a cell, a LAB or neither, and names its culprit; a refusal leaves the route buffer as it was,
--- one other than 65 the list of tries too; and the apprentice is that of the answer sheet. Assumes nothing.
+-- Demand 1 holds: the verdict has a number of the table and names its culprit, a refusal leaves the route buffer as it was, one other than
+-- 65 the list of tries too, and the apprentice is that of the answer sheet. Assumes nothing.
 use Prim.Native.Nat.{ℕ}
 use mathlib.Core.Path.{◌≡◌, refl}
 use mathlib.Core.Bool.{true}
 use borrow.Author.Tests.{ne_eqb}
 use Rattle.sheet.specs.Lists.{elemb}
+use Rattle.verdict.specs.Numbers.{refusal_numbers}
 use Rattle.judge.specs.Call.{Call}
 use Rattle.judge.specs.Judge.{checks, judged, routed, tried}
 use Rattle.verdict.specs.Verdicts.{apprentice_of, verdict_of}
 use Rattle.judge.specs.Demands.{Demand1, numbers}
 use Rattle.judge.proofs.Broken.{found}
-use Rattle.judge.proofs.Numbers.{refusal_numbers, In, all_give, every_weaker, all_known}
-use Rattle.judge.proofs.NamesPlace.{names_place}
+use Rattle.judge.proofs.Numbers.{In, all_give, every_weaker, all_known}
 use Rattle.judge.proofs.NamesCulprit.{names_culprit}
 
 -- the numbers of the checks are in the table
@@ -28,7 +28,6 @@ pub demand1 : Demand1
 unfolding judged verdict_of routed tried apprentice_of
 demand1 = record {
   one_number = one_number;
-  names_place = λ c. names_place c (one_number c);
   names_culprit = names_culprit;
   untouched = λ c before h. rw (ne_eqb (judged c).number 0 h);
   tries_untouched = λ c before h. rw h;

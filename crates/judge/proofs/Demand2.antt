@@ -4,16 +4,16 @@ use mathlib.Core.Logic.{◌⊎◌, inl, inr, ⊎_elim}
 use mathlib.Core.List.{List, [], ◌∷◌}
 use Rattle.sheet.proofs.Laws.{by_test}
 use Rattle.verdict.specs.declared.Finding.{Finding}
-use Rattle.judge.specs.Judge.{LocatedCheck, checks, first_broken, judged}
+use Rattle.judge.specs.Judge.{Check, checks, first_broken, judged}
 use Rattle.verdict.specs.Verdicts.{verdict_of}
 use Rattle.judge.specs.Demands.{AllHold, FirstBroken, Demand2}
 use Rattle.judge.proofs.Broken.{skip_held, hold_legal, legal_hold}
 use Rattle.judge.proofs.Numbers.{all_numbered}
 
-first_finds : (k : LocatedCheck) (ks : List LocatedCheck) → FirstBroken k ks → first_broken ks ≡ k.finding
+first_finds : (k : Check) (ks : List Check) → FirstBroken k ks → first_broken ks ≡ k.finding
 first_finds k ks f = ap first_broken f.stands ∙ skip_held f.before (k ∷ f.after) f.hold ∙ rw f.broken
 
-all_or_first : (ks : List LocatedCheck) → AllHold ks ⊎ ((k : LocatedCheck) × FirstBroken k ks)
+all_or_first : (ks : List Check) → AllHold ks ⊎ ((k : Check) × FirstBroken k ks)
 unfolding AllHold
 all_or_first [] = inl tt
 all_or_first (k ∷ ks) =

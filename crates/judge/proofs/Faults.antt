@@ -3,6 +3,7 @@ use Prim.Native.Nat.{ℕ}
 use mathlib.Core.Path.{◌≡◌, refl}
 use mathlib.Core.Bool.{true}
 use mathlib.Core.List.{List, [], ◌∷◌, map}
+use lib.ListN.{length, replicate}
 use Rattle.sheet.specs.Lists.{elemb}
 use Rattle.verdict.specs.declared.Fault.{Fault}
 use Rattle.verdict.specs.declared.Fault.TheVariants.{Call, ExerciseHead, Record, AnswerHead, Place, Lab}
@@ -11,7 +12,7 @@ use Rattle.judge.proofs.Numbers.{all_give}
 
 -- all numbers of a list have the fault k
 unfoldable pub AllAt : Fault → List ℕ → Type 0
-AllAt k ns = map fault_of ns ≡ map (λ _. k) ns
+AllAt k ns = map fault_of ns ≡ replicate (length ns) k
 
 pub fault_in : (k : Fault) (ns : List ℕ) → AllAt k ns → (n : ℕ) → elemb n ns ≡ true → fault_of n ≡ k
 unfolding AllAt

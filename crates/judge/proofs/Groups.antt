@@ -13,40 +13,40 @@ use Rattle.settings.specs.Settings.{settings_checks, settings_number}
 use Rattle.answer.specs.Answer.{answer_checks, answer_number, place_count, wrong_answer_length}
 use Rattle.sheet.proofs.Laws.{by_test}
 use Rattle.tables.specs.Records.{cell_numbers, malformed, double_driver}
-use Rattle.netlist.specs.Cells.{cell_checks}
-use Rattle.netlist.specs.passes.Numbers.{cell_number}
+use Rattle.netlist.specs.Cells.{cell_checks, cell_number}
 use Rattle.placing.specs.Places.{out_of_range_at, place_taken}
 use Rattle.sheet.specs.Checks.{NONE}
 use Rattle.verdict.specs.declared.Finding.{Finding}
-use Rattle.judge.specs.Judge.{LocatedCheck, sheet_check, of_sheet, per_cell, carry_not_next, room_checks, settings_group, exercise_group, answer_group, cell_group, place_group, sheet_checks, checks_to51, first_broken}
+use Rattle.judge.specs.Judge.{Check, check, of_sheet, per_cell, carry_not_next, room_checks, settings_group, exercise_group, answer_group, cell_group, place_group, sheet_checks, checks_to51, first_broken}
 use Rattle.verdict.specs.Verdicts.{finding}
 use Rattle.judge.specs.Call.{Call}
+use Rattle.verdict.specs.Numbers.{numbers_to51}
 use Rattle.judge.specs.passes.Stages.{numbered_as, numbered, at_cell}
 use Rattle.judge.specs.passes.Preparing.{then}
 use borrow.Author.Rules.{rules}
 use Rattle.judge.proofs.Broken.{first_append, sheet_finds, run_finds, cells_find}
-use Rattle.judge.proofs.Numbers.{numbers_to51, To51, known_numbered, every_append, run_known, settings_known, exercise_known, answer_known, cells_known, cell_numbered}
+use Rattle.judge.proofs.Numbers.{To51, known_numbered, every_append, run_known, settings_known, exercise_known, answer_known, cells_known, cell_numbered}
 
 -- ---- the parts of the groups: 10 to 14; 15; 16; 20 to 25; 26; 50; 51
-abbrev pub exercise_head : List ℕ → List LocatedCheck
+abbrev pub exercise_head : List ℕ → List Check
 exercise_head e = of_sheet (exercise_checks e)
 
-abbrev pub record_run : List ℕ → List LocatedCheck
+abbrev pub record_run : List ℕ → List Check
 record_run e = per_cell 15 (malformed e) (cell_numbers e)
 
-abbrev pub driver_run : List ℕ → List LocatedCheck
+abbrev pub driver_run : List ℕ → List Check
 driver_run e = per_cell 16 (double_driver e) (cell_numbers e)
 
-abbrev pub answer_head : List ℕ → List ℕ → List LocatedCheck
-answer_head e a = of_sheet (answer_checks a) ++ (sheet_check 24 (not (eqb (place_count a) (cell_count e))) ∷ sheet_check 25 (wrong_answer_length a) ∷ [])
+abbrev pub answer_head : List ℕ → List ℕ → List Check
+answer_head e a = of_sheet (answer_checks a) ++ (check 24 (not (eqb (place_count a) (cell_count e))) ∷ check 25 (wrong_answer_length a) ∷ [])
 
-abbrev pub range_run : List ℕ → List ℕ → List LocatedCheck
+abbrev pub range_run : List ℕ → List ℕ → List Check
 range_run e a = per_cell 26 (out_of_range_at a) (cell_numbers e)
 
-abbrev pub shared_run : List ℕ → List ℕ → List LocatedCheck
+abbrev pub shared_run : List ℕ → List ℕ → List Check
 shared_run e a = per_cell 50 (place_taken e a) (cell_numbers e)
 
-abbrev pub carry_run : List ℕ → List ℕ → List LocatedCheck
+abbrev pub carry_run : List ℕ → List ℕ → List Check
 carry_run e a = per_cell 51 (carry_not_next e a) (cell_numbers e)
 
 -- ---- a finding, and the next where it is nothing
@@ -67,7 +67,7 @@ then_assoc : (f g h : Finding) → then f (then g h) ≡ then (then f g) h
 then_assoc f g h = by_test (eqb f.number 0) (λ b. rw b) (λ b. rw b (rw b))
 
 -- of two lists in turn, where all numbers of the first are known
-in_turn : (xs ys : List LocatedCheck) → Every To51 xs → first_broken (xs ++ ys) ≡ then (first_broken xs) (first_broken ys)
+in_turn : (xs ys : List Check) → Every To51 xs → first_broken (xs ++ ys) ≡ then (first_broken xs) (first_broken ys)
 in_turn xs ys h = first_append xs ys (known_numbered numbers_to51 refl xs h)
 
 run_15 : (e : List ℕ) → Every To51 (record_run e)
@@ -107,7 +107,7 @@ pub answer_finds : (e a : List ℕ) → first_broken (answer_group e a)
     (at_cell 26 (first_from (out_of_range_at a) 0 (cell_count e)) (cell_count e))))
 unfolding answer_group answer_number
 answer_finds e a =
-    in_turn (of_sheet (answer_checks a)) (sheet_check 24 (not (eqb (place_count a) (cell_count e))) ∷ sheet_check 25 (wrong_answer_length a) ∷ range_run e a) (sheet_known a)
+    in_turn (of_sheet (answer_checks a)) (check 24 (not (eqb (place_count a) (cell_count e))) ∷ check 25 (wrong_answer_length a) ∷ range_run e a) (sheet_known a)
     ∙ rw (sheet_finds (answer_checks a), run_finds 26 (out_of_range_at a) (cell_count e))
 
 -- 30 to 44

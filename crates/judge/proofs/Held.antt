@@ -8,10 +8,10 @@ use mathlib.Core.List.{List, [], ◌∷◌, ◌++◌}
 use native.Mathlib.Nat.{eq-or-lt_of_le}
 use native.Mathlib.Omega.{arith}
 use Rattle.sheet.specs.Lists.{concat_map, from, below}
-use Rattle.sheet.specs.Checks.{Check, first_number}
+use Rattle.sheet.specs.Checks as sheet
 use Rattle.lab_rules.specs.Rules.{lab_checks}
 use Rattle.judge.specs.Call.{Call, in_force}
-use Rattle.judge.specs.Judge.{LocatedCheck, per_cell, of_cell, of_lab, lab_cells, room_checks, settings_group, exercise_group, answer_group, cell_group, place_group, lab_group, sheet_checks, checks_to51, checks, judged}
+use Rattle.judge.specs.Judge.{Check, per_cell, of_cell, of_lab, lab_cells, room_checks, settings_group, exercise_group, answer_group, cell_group, place_group, lab_group, sheet_checks, checks_to51, checks, judged}
 use Rattle.verdict.specs.Verdicts.{verdict_of}
 use Rattle.judge.specs.Demands.{AllHold}
 use Rattle.judge.proofs.Broken as broken
@@ -19,13 +19,13 @@ use Rattle.judge.proofs.Broken.{hold_append}
 use Rattle.judge.proofs.Numbers.{all_numbered}
 
 -- ---- checks that hold
-hold_from : (f : ℕ → List LocatedCheck) (i k : ℕ) → AllHold (concat_map f (from i k)) → (j : ℕ) → i ≤ j → j < i + k → AllHold (f j)
+hold_from : (f : ℕ → List Check) (i k : ℕ) → AllHold (concat_map f (from i k)) → (j : ℕ) → i ≤ j → j < i + k → AllHold (f j)
 hold_from f i zero h j l m = absurd (omega arith)
 hold_from f i (suc k) h j l m =
     let g = hold_append (f i) (concat_map f (from (suc i) k)) h in
     ⊎_elim (λ q. rw (← q) g.0) (λ q. hold_from f (suc i) k g.1 j q (omega arith)) (eq-or-lt_of_le l)
 
-pub hold_each : (f : ℕ → List LocatedCheck) (k : ℕ) → AllHold (concat_map f (below k)) → (j : ℕ) → j < k → AllHold (f j)
+pub hold_each : (f : ℕ → List Check) (k : ℕ) → AllHold (concat_map f (below k)) → (j : ℕ) → j < k → AllHold (f j)
 hold_each f k h j l = hold_from f 0 k h j (omega arith) (omega arith)
 
 pub hold_run : (n : ℕ) (f : ℕ → Bool) (k i j : ℕ) → AllHold (per_cell n f (from i k)) → i ≤ j → j < i + k → f j ≡ false
@@ -33,7 +33,7 @@ unfolding AllHold
 hold_run n f zero i j h a b = absurd (omega arith)
 hold_run n f (suc k) i j h a b = ⊎_elim (λ e. rw (← e) h.0) (λ m. hold_run n f k (suc i) j h.1 m (omega arith)) (eq-or-lt_of_le a)
 
-pub hold_number : (i : ℕ) (ks : List Check) → AllHold (of_cell i ks) → first_number ks ≡ 0
+pub hold_number : (i : ℕ) (ks : List sheet.Check) → AllHold (of_cell i ks) → sheet.first_number ks ≡ 0
 unfolding AllHold
 hold_number i [] h = refl
 hold_number i (k ∷ ks) h = rw h.0 (hold_number i ks h.1)

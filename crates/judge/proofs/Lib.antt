@@ -13,7 +13,6 @@ pub mod RouteHeld
 pub mod NetMarks
 pub mod Faults
 pub mod CulpritInside
-pub mod NamesPlace
 pub mod NamesCulprit
 pub mod Demand1
 pub mod Demand2

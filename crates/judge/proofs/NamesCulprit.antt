@@ -38,7 +38,7 @@ module _ (c : Call) (f : Finding) (fine : Fine c f) where
     cell_record = λ m. let q = fault_in Record _ faults.cell_record f.number m in ((known Record q).0, part Record q);
     answer_head_lem = λ m. part AnswerHead (fault_in AnswerHead _ faults.answer_head_lem f.number m);
     cell_place = λ m. let q = fault_in Place _ faults.cell_place f.number m in ((known Place q).0, part Place q);
-    lab_place = λ m. let q = fault_in Lab _ faults.lab_place f.number m in (lowest_in a (cell_count e) f.lab, (known Lab q).3, part Lab q);
+    lab_place = λ m. let q = fault_in Lab _ faults.lab_place f.number m in (lowest_in a (cell_count e) f.lab, (known Lab q).0, part Lab q);
   }
 
 pub names_culprit : (c : Call) → NamesCulprit c (judged c)

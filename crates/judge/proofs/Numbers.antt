@@ -3,7 +3,7 @@ use Prim.Native.Nat.{ℕ}
 use mathlib.Core.Path.{◌≡◌, refl, sym, ap, ◌∙◌}
 use mathlib.Core.Bool.{Bool, true, false, true≢false}
 use mathlib.Core.List.{List, [], ◌∷◌, ◌++◌, map}
-use lib.ListN.{get_or, drop}
+use lib.ListN.{length, get_or, drop, replicate}
 use lib.Dec.{eqb}
 use borrow.Author.Tests.{eqb-true}
 use borrow.Author.Rules.{rules}
@@ -17,27 +17,10 @@ use Rattle.lab_rules.specs.Rules.{lab_rules, lab_checks}
 use Rattle.tables.specs.Records.{cell, cell_numbers}
 use Rattle.netlist.specs.Cells.{checks_of, cell_checks}
 use Rattle.judge.specs.Call.{Call, in_force}
-use Rattle.judge.specs.Judge.{LocatedCheck, cell_check, per_cell, of_sheet, of_cell, of_lab, lab_cells, room_checks, settings_group, exercise_group, answer_group, cell_group, place_group, lab_group, sheet_checks, checks_to51, checks, first_broken}
-use Rattle.verdict.specs.Numbers.{exercise_head_numbers, record_numbers, answer_head_numbers, place_numbers, lab_numbers}
+use Rattle.judge.specs.Judge.{Check, cell_check, per_cell, of_sheet, of_cell, of_lab, lab_cells, room_checks, settings_group, exercise_group, answer_group, cell_group, place_group, lab_group, sheet_checks, checks_to51, checks, first_broken}
+use Rattle.verdict.specs.Numbers.{numbers_to51, lab_numbers, refusal_numbers}
 use Rattle.judge.specs.Demands.{AllHold}
 use Rattle.judge.proofs.Broken.{Numbered, NumberedIn}
-
--- ---- the numbers of the checks
--- the route buffer, and M-106's list of tries
-abbrev call_numbers : List ℕ
-call_numbers = 1 ∷ 3 ∷ []
-
--- M-102, the settings sheet
-abbrev settings_refusals : List ℕ
-settings_refusals = 70 ∷ 71 ∷ 72 ∷ 73 ∷ 74 ∷ 75 ∷ []
-
--- "the judge's numbers 1 to 51", with 3 and 70 to 75 among them
-abbrev pub numbers_to51 : List ℕ
-numbers_to51 = call_numbers ++ (settings_refusals ++ (exercise_head_numbers ++ (record_numbers ++ (answer_head_numbers ++ place_numbers))))
-
--- every number but 0
-abbrev pub refusal_numbers : List ℕ
-refusal_numbers = numbers_to51 ++ lab_numbers
 
 -- ---- of every element
 pub every_append : {A : Type 0} (P : A → Type 0) (xs ys : List A) → Every P xs → Every P ys → Every P (xs ++ ys)
@@ -59,24 +42,21 @@ module _ {A : Type 0} where
     every_joined f h (x ∷ xs) = every_append Q (f x) (concat_map f xs) (h x) (every_joined f h xs)
 
 -- ---- a number in a list
--- where two functions give the same lists for the numbers of a list, they agree at each; and one that gives the same for all
-pub all_same : {A : Type 0} (f g : ℕ → A) (ns : List ℕ) → map f ns ≡ map g ns → (n : ℕ) → elemb n ns ≡ true → f n ≡ g n
-all_same f g [] h n m = absurd (true≢false (sym m))
-all_same f g (x ∷ xs) h n m =
-    by_test (eqb n x) (λ q. rw (eqb-true n x q) (ap (λ ks. get_or ks 0 (g x)) h)) (λ q. all_same f g xs (ap (drop 1) h) n (rw q at m))
-
-pub all_give : {A : Type 0} (f : ℕ → A) (k : A) (ns : List ℕ) → map f ns ≡ map (λ _. k) ns → (n : ℕ) → elemb n ns ≡ true → f n ≡ k
-all_give f k = all_same f (λ _. k)
+-- where f gives the same for all numbers of a list, it gives that for each
+pub all_give : {A : Type 0} (f : ℕ → A) (k : A) (ns : List ℕ) → map f ns ≡ replicate (length ns) k → (n : ℕ) → elemb n ns ≡ true → f n ≡ k
+all_give f k [] h n m = absurd (true≢false (sym m))
+all_give f k (x ∷ xs) h n m =
+    by_test (eqb n x) (λ q. rw (eqb-true n x q) (ap (λ ks. get_or ks 0 k) h)) (λ q. all_give f k xs (ap (drop 1) h) n (rw q at m))
 
 pub elem_more : (s : ℕ) (xs ys : List ℕ) → elemb s xs ≡ true → elemb s (xs ++ ys) ≡ true
 elem_more s [] ys m = absurd (true≢false (sym m))
 elem_more s (x ∷ xs) ys m = by_test (eqb s x) (λ e. rw e) (λ e. rw e (elem_more s xs ys (rw e at m)))
 
 -- a check has one of the numbers of a list
-abbrev pub In : List ℕ → LocatedCheck → Type 0
+abbrev pub In : List ℕ → Check → Type 0
 In ns k = elemb k.finding.number ns ≡ true
 
-abbrev pub To51 : LocatedCheck → Type 0
+abbrev pub To51 : Check → Type 0
 To51 = In numbers_to51
 
 module _ (n : ℕ) (ns : List ℕ) (none : elemb n ns ≡ false) where
@@ -84,13 +64,13 @@ module _ (n : ℕ) (ns : List ℕ) (none : elemb n ns ≡ false) where
   other m h q = true≢false (sym h ∙ rw q none)
 
   -- where the first broken check has a number that none of the first list has, these all hold
-  pub later_held : (xs ys : List LocatedCheck) → Every (In ns) xs → (first_broken (xs ++ ys)).number ≡ n → AllHold xs
+  pub later_held : (xs ys : List Check) → Every (In ns) xs → (first_broken (xs ++ ys)).number ≡ n → AllHold xs
   unfolding AllHold
   later_held [] ys h e = tt
   later_held (x ∷ xs) ys h e =
       by_test x.broken (λ b. absurd (other x.finding.number h.0 (rw b at e))) (λ b. (b, later_held xs ys h.1 (rw b at e)))
 
-pub known_numbered : (ns : List ℕ) → elemb 0 ns ≡ false → (ks : List LocatedCheck) → Every (In ns) ks → Numbered ks
+pub known_numbered : (ns : List ℕ) → elemb 0 ns ≡ false → (ks : List Check) → Every (In ns) ks → Numbered ks
 known_numbered ns none ks h = every_weaker (In ns) _ (λ k g. other 0 ns none k.finding.number g) ks h
 
 -- ---- the parts of the list of checks

@@ -14,17 +14,16 @@ use Rattle.sheet.proofs.Laws.{by_test}
 use Rattle.sheet.proofs.First.{none_first}
 use Rattle.exercise.specs.Exercise.{cell_count}
 use Rattle.exercise.specs.passes.Known.{known_at}
-use Rattle.entries.specs.Table.{Table}
-use Rattle.entries.specs.passes.Rows.{eight_rows}
-use Rattle.route.specs.Served.{SameServed}
-use Rattle.route.proofs.AllWays.{}
+use Rattle.entries.specs.Table.{Table, eight_rows}
+use Rattle.route.proofs.AllWays.{SameServed}
 use Rattle.settings.specs.Settings.{settings_number, table_of}
 use Rattle.settings.proofs.Laws.{same_table}
 use Rattle.lab_rules.specs.Rules.{lab_tries}
 use Rattle.lab_rules.specs.passes.Counts.{AllFit}
 use Rattle.tables.specs.passes.Tables.{reads_below, readers_below, drivers_below}
 use Rattle.tables.proofs.Filled.{drivers_length}
-use Rattle.netlist.specs.passes.Numbers.{cell_number, number_at}
+use Rattle.netlist.specs.Cells.{cell_number}
+use Rattle.netlist.specs.passes.Numbers.{number_at}
 use Rattle.lab_pass.specs.passes.Links.{Links}
 use Rattle.lab_pass.specs.passes.Results.{result_at, tries_at, broken_lab, lowest_broken, has_cells, put_rows, put_tries, searched_labs}
 use Rattle.lab_pass.specs.declared.LowestBroken.{LowestBroken}
@@ -36,13 +35,12 @@ use Rattle.judge.specs.declared.Prepared.{Prepared}
 use Rattle.verdict.specs.declared.Verdict.{Verdict}
 use Rattle.judge.specs.Call.{Call, call}
 use Rattle.judge.specs.Judge.{room_checks, settings_group, exercise_group, answer_group, cell_group, place_group, lab_group, checks_to51, checks, lab_cells, first_broken, judged, route_bytes, routed, tries_of, tried}
-use Rattle.judge.specs.Serves.{PreparedServes}
 use Rattle.verdict.specs.Verdicts.{finding, legal, verdict_of}
-use Rattle.verdict.specs.Numbers.{searched_numbers}
+use Rattle.verdict.specs.Numbers.{numbers_to51, searched_numbers}
 use Rattle.judge.specs.passes.Stages.{numbered_as, numbered, numbered_lab, placed_by}
 use Rattle.judge.specs.passes.Preparing.{then, early_in, prepared_for, drivers_for, found_to51, linked, found_in_labs, rows_of_labs, tries_of_labs, found_from}
 use Rattle.judge.proofs.Broken.{first_append, found}
-use Rattle.judge.proofs.Numbers.{numbers_to51, In, all_give, every_weaker, to_51_known, to_51_numbered}
+use Rattle.judge.proofs.Numbers.{In, all_give, every_weaker, to_51_known, to_51_numbered}
 use Rattle.judge.proofs.Groups.{then_stays, then_goes, then_first, then_second, settings_finds, early_finds, fixed_finds, cells_finds, to_51_finds}
 use Rattle.judge.proofs.Numbering.{numbered_none}
 use Rattle.judge.proofs.Sound.{Sound, sound_of, cells_are, places_are}
@@ -192,10 +190,10 @@ module _ (t : Table) (e a : List ℕ) (cells : ℕ) (first next : List ℕ) (n :
   unfolding numbered_as
   labs_end h q = by_lists (rw (← at) (rw (le-ltb l.lab 1024 h) q))
 
-  pub rows_of : (before after : List ℕ)
+  pub rows_of_lem : (before after : List ℕ)
       → after ≡ put_rows (has_cells first next) (λ k. (result_at t (known_at e) first next k).bytes) before l.lab → after ≡ rows_of_labs t e a before
   unfolding rows_of_labs
-  rows_of before after p = p ∙ rw (found, x, y, n)
+  rows_of_lem before after p = p ∙ rw (found, x, y, n)
 
   pub tries_of_lem : (before after : List ℕ)
       → after ≡ put_tries (has_cells first next) (tries_at t (known_at e) first next) before (searched_labs l.lab) → after ≡ tries_of_labs t e a before
@@ -330,9 +328,9 @@ module _ (s e a : List ℕ) (r n : ℕ) (room : r ≡ 8192) (slots : n ≡ 1024)
   unfolding checks
   found_all = first_append (checks_to51 c) (lab_group c) (to_51_numbered c)
 
-  serves_answer : found_from (eight_rows (table_of s)) (prepared_for s e) (drivers_for s e) e a ≡ first_broken (checks c)
+  pub prepared_serves : found_from (eight_rows (table_of s)) (prepared_for s e) (drivers_for s e) e a ≡ first_broken (checks c)
   unfolding found_from
-  serves_answer =
+  prepared_serves =
       sym (found_all ∙ rw found_to_51 (by_test (eqb (first_broken (checks_to51 c)).number 0)
       (λ b. rw (b, labs_found (eqb-true (first_broken (checks_to51 c)).number 0 b))) (λ b. rw b)))
 
@@ -387,10 +385,6 @@ module _ (s e a : List ℕ) (r n : ℕ) (room : r ≡ 8192) (slots : n ≡ 1024)
           k ∙ by_test (elemb g.number searched_numbers) (λ b. rw b (list_found b)) (λ b. rw b),
         ),
       )
-
-pub prepared_serves : PreparedServes
-unfolding PreparedServes
-prepared_serves s e a = serves_answer s e a 8192 1024 refl refl
 
 -- ---- the whole verdict
 module _ (c : Call) (before list : List ℕ) (v : Verdict) where

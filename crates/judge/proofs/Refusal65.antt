@@ -1,5 +1,5 @@
 -- Refusal 65 names a LAB exactly when the four things of demand 3 are true of it. Assumes nothing.
-use Prim.Native.Nat.{ℕ, ◌<◌, ◌≤◌}
+use Prim.Native.Nat.{ℕ, ◌+◌, ◌<◌, ◌≤◌}
 use mathlib.Core.Path.{◌≡◌, refl, sym, ap, ◌∙◌}
 use mathlib.Core.Logic.{◌↔◌}
 use mathlib.Core.Bool.{Bool, true, false, cond, not, true≢false}
@@ -9,7 +9,7 @@ use native.Mathlib.Omega.{arith}
 use lib.Dec.{eqb, ltb}
 use borrow.Author.Tests.{eqb-true, ne_eqb, lt-ltb, le-ltb}
 use Rattle.sheet.specs.Lists.{concat_map, below, first_from}
-use Rattle.sheet.specs.Checks.{NONE, Check, first_number}
+use Rattle.sheet.specs.Checks as sheet
 use Rattle.exercise.specs.Exercise.{cell_count}
 use Rattle.exercise.specs.declared.Record.{Record}
 use Rattle.sheet.proofs.Laws.{by_test}
@@ -24,20 +24,22 @@ use Rattle.lab_rules.specs.Rules.{needs, no_way, lab_rules, lab_checks, lab_numb
 use Rattle.lab_rules.proofs.Routes.{stuck, goes, told}
 use Rattle.placing.specs.Places.{lab_at}
 use Rattle.placing.specs.Members.{members}
+use Rattle.sheet.specs.Checks.{NONE}
 use Rattle.verdict.specs.declared.Finding.{Finding}
 use Rattle.judge.specs.Call.{Call, in_force}
-use Rattle.judge.specs.Judge.{LocatedCheck, of_lab, lab_cells, occupied, lab_group, checks_to51, checks, first_broken, judged}
+use Rattle.judge.specs.Judge.{Check, of_lab, lab_cells, occupied, lab_group, checks_to51, checks, first_broken, judged}
 use Rattle.verdict.specs.Verdicts.{finding, verdict_of}
+use Rattle.verdict.specs.Numbers.{numbers_to51}
 use Rattle.judge.specs.Demands.{AllHold, FourThings, Keeps60to64, Keeps65, lab_needs}
 use Rattle.judge.proofs.Broken.{NumberedIn, skip_held, breaks_one, labs_find}
 use Rattle.sheet.proofs.First.{before_first, first_is, none_first}
-use Rattle.judge.proofs.Numbers.{numbers_to51, later_held, rules_numbered, lab_numbered, to_51_known}
+use Rattle.judge.proofs.Numbers.{later_held, rules_numbered, lab_numbered, to_51_known}
 use Rattle.judge.proofs.Held.{hold_number}
 use Rattle.judge.proofs.Kept.{places_held}
 use Rattle.placing.proofs.Places.{lab_in_range}
 
 -- checks of a LAB that give no number hold
-number_hold : (l : ℕ) (ks : List Check) → NumberedIn ks → first_number ks ≡ 0 → AllHold (of_lab l ks)
+number_hold : (l : ℕ) (ks : List sheet.Check) → NumberedIn ks → sheet.first_number ks ≡ 0 → AllHold (of_lab l ks)
 unfolding AllHold
 number_hold l [] n h = tt
 number_hold l (k ∷ ks) n h = by_test k.broken (λ q. absurd (n.0 (rw q at h))) (λ q. (q, number_hold l ks n.1 (rw q at h)))
@@ -46,23 +48,23 @@ unset : (n : ℕ) → not (eqb n 0) ≡ false → n ≡ 0
 unset n h = by_test (eqb n 0) (λ q. eqb-true n 0 q) (λ q. absurd (true≢false (rw q at h)))
 
 -- ---- the first LAB that breaks a check has n as its number; g j are the checks of LAB j
-module _ (g : ℕ → List Check) (numbered : (j : ℕ) → NumberedIn (g j)) (k l n : ℕ) (Some-number : n ≡ 0 → ⊥) where
+module _ (g : ℕ → List sheet.Check) (numbered : (j : ℕ) → NumberedIn (g j)) (k l n : ℕ) (Some-number : n ≡ 0 → ⊥) where
   abbrev first : Finding
   first = first_broken (concat_map (λ j. of_lab j (g j)) (below k))
 
   abbrev at_first : ℕ
   at_first = first_from (breaks_one g) 0 k
 
-  lab_from : first.number ≡ n → first.lab ≡ l → ((j : ℕ) → j < l → first_number (g j) ≡ 0) × (first_number (g l) ≡ n)
+  lab_from : first.number ≡ n → first.lab ≡ l → ((j : ℕ) → j < l → sheet.first_number (g j) ≡ 0) × (sheet.first_number (g l) ≡ n)
   lab_from u v =
       let finds = labs_find g k numbered in
       by_test (ltb at_first k)
-      (λ q. let here : first ≡ finding (first_number (g at_first)) NONE at_first = rw q at finds in
+      (λ q. let here : first ≡ finding (sheet.first_number (g at_first)) NONE at_first = rw q at finds in
       let is : at_first ≡ l = rw here at v in
-      (λ j h. unset (first_number (g j)) (before_first (breaks_one g) k 0 j (omega arith) (omega arith)), rw is at (rw here at u)))
+      (λ j h. unset (sheet.first_number (g j)) (before_first (breaks_one g) k 0 j (omega arith) (omega arith)), rw is at (rw here at u)))
       (λ q. absurd (Some-number (sym (rw (finds, q) at u))))
 
-  pub lab_to : l < k → ((j : ℕ) → j < l → first_number (g j) ≡ 0) → first_number (g l) ≡ n → first ≡ finding n NONE l
+  pub lab_to : l < k → ((j : ℕ) → j < l → sheet.first_number (g j) ≡ 0) → sheet.first_number (g l) ≡ n → first ≡ finding n NONE l
   lab_to h low u =
       let is : at_first ≡ l = first_is (breaks_one g) k 0 l (omega arith) (omega arith) (λ j a b. rw (low j b)) (rw (u, ne_eqb n 0 Some-number)) in
       labs_find g k numbered ∙ rw (is, lt-ltb l k h, u)
@@ -95,7 +97,7 @@ module _ (c : Call) (l : ℕ) where
   abbrev cells : ℕ → List Record
   cells = lab_cells c
 
-  abbrev rules : ℕ → List Check
+  abbrev rules : ℕ → List sheet.Check
   rules j = lab_checks t (cells j)
 
   numbered : (j : ℕ) → NumberedIn (rules j)
@@ -103,7 +105,7 @@ module _ (c : Call) (l : ℕ) where
 
   -- the number of LAB j
   number_told : (j : ℕ) (b : Bool)
-      → (first_number (rules j) ≡ cond b 65 0) ↔ (AllHold (of_lab j (lab_rules (cells j))) × (no_way t (cells j) ≡ b))
+      → (sheet.first_number (rules j) ≡ cond b 65 0) ↔ (AllHold (of_lab j (lab_rules (cells j))) × (no_way t (cells j) ≡ b))
   unfolding AllHold lab_number
   number_told j b = (
     λ q. let g = (told t (cells j) b).0 q in (number_hold j (lab_rules (cells j)) (rules_numbered (cells j)) g.0, g.1),
@@ -131,7 +133,7 @@ module _ (c : Call) (l : ℕ) where
       (λ j m. let k = f.lower_keep j m in (number_told j false).1 (k.0, (goes t (cells j)).1 k.1))
       ((number_told l true).1 (f.keeps_to_64, (stuck t (cells l)).1 f.has_no_way))
 
-  abbrev early : List LocatedCheck
+  abbrev early : List Check
   early = checks_to51 c
 
   -- 65 is none of the numbers 1 to 51

@@ -7,7 +7,7 @@ use mathlib.Core.List.{List}
 use mathlib.Core.Option.{Option, none, some}
 use native.Mathlib.Nat.{zero-add, add-zero}
 use native.Mathlib.Omega.{arith}
-use lib.ListN.{length, length-append, get_or, drop}
+use lib.ListN.{length, get_or, drop}
 use lib.Seq.{take_at, drop-append-add, get_or-take, get_or-drop}
 use lib.Dec.{eqb}
 use borrow.Author.Tests.{eqb-true, ltb-true}
@@ -26,7 +26,7 @@ use Rattle.placing.specs.Places.{lab_at}
 use Rattle.placing.proofs.Places.{lab_in_range}
 use Rattle.judge.specs.Call.{Call, in_force}
 use Rattle.judge.specs.Judge.{lab_cells, occupied, judged, route_bytes, routed}
-use Rattle.judge.specs.Demands.{AllHold, lab_needs, byte_of}
+use Rattle.judge.specs.Demands.{AllHold, lab_needs, byte_of, HoldsFirstWay}
 use Rattle.judge.proofs.FitCells.{lab_fit}
 use Rattle.judge.proofs.Held.{hold_number, to_51_holds, lab_holds}
 use Rattle.judge.proofs.Kept.{Kept, all_kept}
@@ -41,20 +41,16 @@ module _ (g : ℕ → List ℕ) (eight : (l : ℕ) → length (g l) ≡ 8) where
       let same : suc i + l ≡ i + suc l = omega arith in
       rw (past, drop-append-add (g i), row_from_lem (suc i) k l (omega arith), same)
 
-  rows_length : (i k : ℕ) → length (concat_map g (from i k)) ≡ 8 * k
-  rows_length i zero = omega arith
-  rows_length i (suc k) = rw (length-append (g i) (concat_map g (from (suc i) k)), eight i, rows_length (suc i) k) (omega arith)
-
   -- a row whole, and one byte of it
-  row_part : (k l : ℕ) → l < k → part_at (concat_map g (below k)) (8 * l) 8 ≡ g l
+  pub row_part : (k l : ℕ) → l < k → part_at (concat_map g (below k)) (8 * l) 8 ≡ g l
   row_part k l h = row_from_lem 0 k l h ∙ rw zero-add
 
-  row_at : (k l j : ℕ) → l < k → j < 8 → get_or (concat_map g (below k)) (8 * l + j) 0 ≡ get_or (g l) j 0
-  row_at k l j h s =
+  pub row_at_lem : (k l j : ℕ) → l < k → j < 8 → get_or (concat_map g (below k)) (8 * l + j) 0 ≡ get_or (g l) j 0
+  row_at_lem k l j h s =
       let all = concat_map g (below k) in
       sym (get_or-take 8 (drop (8 * l) all) j 0 s ∙ get_or-drop (8 * l) all j 0) ∙ rw (row_part k l h)
 
-route_eight : (ns : List Need) (way : Option (List ℕ)) → length (lab_route_of ns way).bytes ≡ 8
+pub route_eight : (ns : List Need) (way : Option (List ℕ)) → length (lab_route_of ns way).bytes ≡ 8
 unfolding lab_route_of eight_bytes
 route_eight ns none = refl
 route_eight ns (some w) = refl
@@ -73,25 +69,16 @@ module _ (c : Call) (before : List ℕ) (legal : (judged c).number ≡ 0) where
   kept : Kept e a
   kept = all_kept c (to_51_holds c legal)
 
-  written : routed c before ≡ concat_map (λ l. route_of t (lab_cells c l)) (below 1024)
+  pub written : routed c before ≡ concat_map (λ l. route_of t (lab_cells c l)) (below 1024)
   unfolding routed route_bytes
   written = rw legal
 
-  row_eight : (l : ℕ) → length (route_of t (lab_cells c l)) ≡ 8
+  -- the bytes of LAB l in the buffer are its route bytes, which hold its earliest way
+  byte_at : (l j : ℕ) → l < 1024 → j < 8 → get_or (routed c before) (8 * l + j) 0 ≡ get_or (route_of t (lab_cells c l)) j 0
   unfolding route_of
-  row_eight l = route_eight (needs (lab_cells c l)) (earliest_way t (needs (lab_cells c l)))
+  byte_at l j h s =
+      rw written (row_at_lem (λ k. route_of t (lab_cells c k)) (λ k. route_eight (needs (lab_cells c k)) (earliest_way t (needs (lab_cells c k)))) 1024 l j h s)
 
-  pub as_long : length (routed c before) ≡ 8192
-  as_long = rw written (rows_length (λ l. route_of t (lab_cells c l)) row_eight 0 1024)
-
-  -- the eight bytes of LAB l in the buffer are its route bytes, together and one by one
-  pub part_at_lem : (l : ℕ) → l < 1024 → part_at (routed c before) (8 * l) 8 ≡ route_of t (lab_cells c l)
-  part_at_lem l h = rw written (row_part (λ k. route_of t (lab_cells c k)) row_eight 1024 l h)
-
-  pub byte_at_lem : (l j : ℕ) → l < 1024 → j < 8 → get_or (routed c before) (8 * l + j) 0 ≡ get_or (route_of t (lab_cells c l)) j 0
-  byte_at_lem l j h s = rw written (row_at (λ k. route_of t (lab_cells c k)) row_eight 1024 l j h s)
-
-  -- they hold its earliest way
   lab_held : (l : ℕ) → l < 1024 → HoldsEarliest t (lab_needs c l) (route_of t (lab_cells c l))
   unfolding AllHold lab_needs lab_number
   lab_held l h =
@@ -107,8 +94,17 @@ module _ (c : Call) (before : List ℕ) (legal : (judged c).number ≡ 0) where
       let some = sym (any_below f (cell_count e)) ∙ o in
       rw (eqb-true (lab_at a i) l (some_below f (cell_count e) some)) at (lab_in_range a i (kept.placed i (ltb-true i (cell_count e) some)))
 
-  pub legal_route : (l : ℕ) → occupied c l ≡ true → (l < 1024) × HoldsEarliest t (lab_needs c l) (part_at (routed c before) (8 * l) 8)
-  legal_route l o = let low = occupied_low l o in (low, rw (part_at_lem l low) (lab_held l low))
+  pub legal_route : (l : ℕ) → occupied c l ≡ true → HoldsFirstWay c (routed c before) l
+  unfolding byte_of
+  legal_route l o =
+      let low = occupied_low l o in
+      let g = lab_held l low in
+      record {
+        w = g.w;
+        is_way_lem = g.is_way_lem;
+        others_later = g.others_later;
+        held = λ i m. byte_at l (byte_of_need (lab_needs c l) i) low (g.held i m).0 ∙ (g.held i m).1;
+      }
 
   pub no_need_255 : (b : ℕ) → b < 8192 → ((l i : ℕ) → i < length (lab_needs c l) → byte_of c l i ≡ b → ⊥) → get_or (routed c before) b 0 ≡ 255
   unfolding byte_of
@@ -118,4 +114,4 @@ module _ (c : Call) (before : List ℕ) (legal : (judged c).number ≡ 0) where
       let at : 8 * l + s ≡ b = omega arith in
       let g = lab_held l (omega arith) in
       let unmet : (i : ℕ) → i < length (lab_needs c l) → byte_of_need (lab_needs c l) i ≡ s → ⊥ = λ i m q. free l i m (omega arith) in
-      rw (← at) (byte_at_lem l s (omega arith) (omega arith) ∙ g.no_need_255 s (omega arith) unmet)
+      rw (← at) (byte_at l s (omega arith) (omega arith) ∙ g.no_need_255 s (omega arith) unmet)

@@ -14,10 +14,11 @@ use Rattle.exercise.specs.declared.Record.{Record}
 use Rattle.exercise.specs.declared.Record.TheVariants.{Combinational, Register, Malformed}
 use Rattle.sheet.proofs.Laws.{by_test}
 use Rattle.tables.specs.Records.{cell, malformed, double_driver}
+use Rattle.netlist.specs.Cells.{cell_number}
 use Rattle.exercise.specs.passes.Known.{known_at}
 use Rattle.sheet.specs.Checks.{NONE}
 use Rattle.tables.specs.passes.Tables.{cell_for, reads_below, readers_below, drivers_below}
-use Rattle.netlist.specs.passes.Numbers.{cell_number, number_at}
+use Rattle.netlist.specs.passes.Numbers.{number_at}
 use Rattle.tables.proofs.Found.{known_cells}
 use Rattle.tables.proofs.Same.{reads_same, readers_same, drivers_same}
 use Rattle.tables.proofs.Filled.{reads, readers, drivers}

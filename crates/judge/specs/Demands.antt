@@ -3,17 +3,16 @@
 -- call's length. Assumes nothing.
 use Rattle.std.specs.Prelude.{ℕ, ◌+◌, ◌*◌, ◌<◌, min, ◌≡◌, ◌↔◌, ◌⊎◌, true, false, cond, List, [], ◌∷◌, ◌++◌, length, get_or}
 use Rattle.sheet.specs.Lists.{Every, elemb}
-use Rattle.sheet.specs.Bytes.{part_at}
 use Rattle.exercise.specs.Exercise.{cell_count, record_start}
 use Rattle.answer.specs.Answer.{apprentice, place_start}
 use Rattle.placing.specs.Places.{lab_at}
 use Rattle.entries.specs.declared.Need.{Need}
-use Rattle.route.specs.Way.{Way}
-use Rattle.route.specs.Route.{byte_of_need, HoldsEarliest}
+use Rattle.route.specs.Way.{Way, Earlier}
+use Rattle.route.specs.Route.{byte_of_need}
 use Rattle.lab_rules.specs.Rules.{needs, lab_rules}
 use Rattle.verdict.specs.declared.Verdict.{Verdict}
 use Rattle.judge.specs.Call.{Call, in_force}
-use Rattle.judge.specs.Judge.{LocatedCheck, checks, checks_to51, of_lab, lab_cells, occupied, judged, routed, tried}
+use Rattle.judge.specs.Judge.{Check, checks, checks_to51, of_lab, lab_cells, occupied, judged, routed, tried}
 use Rattle.verdict.specs.Verdicts.{of_exercise, of_answer, verdict_of}
 
 -- the numbers that a judgement can give: document 01's, 70 to 75 of M-102 and 3 of M-106
@@ -23,27 +22,9 @@ numbers =
     ∷ 30 ∷ 31 ∷ 32 ∷ 33 ∷ 34 ∷ 35 ∷ 40 ∷ 41 ∷ 42 ∷ 43 ∷ 44 ∷ 50 ∷ 51 ∷ 60 ∷ 61 ∷ 62 ∷ 63 ∷ 64 ∷ 65
     ∷ 70 ∷ 71 ∷ 72 ∷ 73 ∷ 74 ∷ 75 ∷ []
 
--- the number of a verdict is one of these, and none of them
+-- the number of a verdict is one of these
 abbrev pub OneOf : Verdict → List ℕ → Type 0
 OneOf v ns = elemb v.number ns ≡ true
-
-abbrev pub NoneOf : Verdict → List ℕ → Type 0
-NoneOf v ns = elemb v.number ns ≡ false
-
--- "the cell (for 15, 16, 26, 30 to 51)"
-abbrev pub with_cell : List ℕ
-with_cell = 15 ∷ 16 ∷ 26 ∷ 30 ∷ 31 ∷ 32 ∷ 33 ∷ 34 ∷ 35 ∷ 40 ∷ 41 ∷ 42 ∷ 43 ∷ 44 ∷ 50 ∷ 51 ∷ []
-
--- "the LAB (for 60 to 65)"
-abbrev pub with_lab : List ℕ
-with_lab = 60 ∷ 61 ∷ 62 ∷ 63 ∷ 64 ∷ 65 ∷ []
-
--- which numbers name a cell of the exercise, and which a LAB, "with 65,535 where there is none"
-pub record NamesPlace (c : Call) (v : Verdict) : Type 0 where
-  pub cell : OneOf v with_cell → v.cell < cell_count c.exercise
-  pub no_cell : NoneOf v with_cell → v.cell ≡ 65535
-  pub lab : OneOf v with_lab → v.lab < 1024
-  pub no_lab : NoneOf v with_lab → v.lab ≡ 65535
 
 -- i is the lowest of the exercise's cells that the answer puts into LAB l
 pub record LowestCell (c : Call) (l i : ℕ) : Type 0 where
@@ -69,26 +50,24 @@ pub record NamesCulprit (c : Call) (v : Verdict) : Type 0 where
       → (i : ℕ) × LowestCell c v.lab i × (v.culprit ≡ of_answer (place_start i) 4)
 
 -- every check of a list holds
-unfoldable pub AllHold : List LocatedCheck → Type 0
+unfoldable pub AllHold : List Check → Type 0
 AllHold = Every (λ k. k.broken ≡ false)
 
 -- k is the first broken check of a list
-pub record FirstBroken (k : LocatedCheck) (ks : List LocatedCheck) : Type 0 where
-  pub before : List LocatedCheck
-  pub after : List LocatedCheck
+pub record FirstBroken (k : Check) (ks : List Check) : Type 0 where
+  pub before : List Check
+  pub after : List Check
   pub stands : ks ≡ before ++ (k ∷ after)
   pub hold : AllHold before
   pub broken : k.broken ≡ true
 
--- DEMAND 1. "exactly one numbered verdict"; "the cell .., the LAB .., with 65,535 where there is none"; "a refusal names its culprit"; "a refusal ..
--- leaves the route buffer untouched"; "the apprentice number comes from the answer sheet only", "0 for numbers 1 to 23" and 70 to 75; a refusal other
--- than 65 leaves the list of tries untouched
+-- DEMAND 1. "exactly one numbered verdict"; "a refusal names its culprit"; "a refusal .. leaves the route buffer untouched"; "the apprentice
+-- number comes from the answer sheet only", "0 for numbers 1 to 23" and 70 to 75; a refusal other than 65 leaves the list of tries untouched
 pub record Demand1 : Type 0 where
   pub one_number : (c : Call) → elemb (judged c).number numbers ≡ true
-  pub names_place : (c : Call) → NamesPlace c (judged c)
   pub names_culprit : (c : Call) → NamesCulprit c (judged c)
   pub untouched : (c : Call) (before : List ℕ) → ((judged c).number ≡ 0 → ⊥) → routed c before ≡ before
-  pub tries_untouched : (c : Call) (before : List ℕ) → NoneOf (judged c) (0 ∷ 65 ∷ []) → tried c before ≡ before
+  pub tries_untouched : (c : Call) (before : List ℕ) → elemb (judged c).number (0 ∷ 65 ∷ []) ≡ false → tried c before ≡ before
   pub apprentice_only : (c : Call) → (judged c).apprentice
       ≡ cond (elemb (judged c).number (1 ∷ 3 ∷ 10 ∷ 11 ∷ 12 ∷ 13 ∷ 14 ∷ 15 ∷ 16 ∷ 20 ∷ 21 ∷ 22 ∷ 23 ∷ 70 ∷ 71 ∷ 72 ∷ 73 ∷ 74 ∷ 75 ∷ [])) 0
       (apprentice c.answer)
@@ -96,8 +75,8 @@ pub record Demand1 : Type 0 where
 -- DEMAND 2. "The verdict is legal exactly if every rule in document 01 holds; otherwise it is the first broken one, in 01's order"
 pub record Demand2 : Type 0 where
   pub legal_exactly : (c : Call) → ((judged c).number ≡ 0) ↔ AllHold (checks c)
-  pub else_the_first : (c : Call) (k : LocatedCheck) → FirstBroken k (checks c) → judged c ≡ verdict_of c.exercise c.answer k.finding
-  pub one_or_other : (c : Call) → AllHold (checks c) ⊎ ((k : LocatedCheck) × FirstBroken k (checks c))
+  pub else_the_first : (c : Call) (k : Check) → FirstBroken k (checks c) → judged c ≡ verdict_of c.exercise c.answer k.finding
+  pub one_or_other : (c : Call) → AllHold (checks c) ⊎ ((k : Check) × FirstBroken k (checks c))
 
 -- ---- demand 3, of a call: "demand 3 speaks of that table", the one in force
 module _ (c : Call) where
@@ -124,14 +103,17 @@ module _ (c : Call) where
   unfoldable pub byte_of : ℕ → ℕ → ℕ
   byte_of l i = 8 * l + byte_of_need (lab_needs l) i
 
+  -- the route bytes of LAB l hold w, a way than which every other comes later
+  pub record HoldsFirstWay (route : List ℕ) (l : ℕ) : Type 0 where
+    pub w : List ℕ
+    pub is_way_lem : Way (in_force c) (lab_needs l) w
+    pub others_later : (v : List ℕ) → Way (in_force c) (lab_needs l) v → (v ≡ w) ⊎ Earlier w v
+    pub held : (i : ℕ) → i < length (lab_needs l) → get_or route (byte_of l i) 0 ≡ get_or w i 0
+
 -- DEMAND 3, both halves
 pub record Demand3 : Type 0 where
   pub refusal_65 : (c : Call) (l : ℕ) → (((judged c).number ≡ 65) × ((judged c).lab ≡ l)) ↔ FourThings c l
-  -- the route buffer is as long as it has to be lent
-  pub as_long : (c : Call) (before : List ℕ) → (judged c).number ≡ 0 → length (routed c before) ≡ 8192
-  -- "8 bytes per LAB at 8 × LAB number": those of an occupied LAB hold its earliest way
   pub legal_route : (c : Call) (before : List ℕ) → (judged c).number ≡ 0
-      → (l : ℕ) → occupied c l ≡ true → (l < 1024) × HoldsEarliest (in_force c) (lab_needs c l) (part_at (routed c before) (8 * l) 8)
-  -- "255 where there is no need", of every byte of the buffer
+      → (l : ℕ) → occupied c l ≡ true → HoldsFirstWay c (routed c before) l
   pub no_need_255 : (c : Call) (before : List ℕ) → (judged c).number ≡ 0
       → (b : ℕ) → b < 8192 → ((l i : ℕ) → i < length (lab_needs c l) → byte_of c l i ≡ b → ⊥) → get_or (routed c before) b 0 ≡ 255

@@ -5,7 +5,7 @@
 -- Assumes nothing.
 use Rattle.std.specs.Prelude.{ℕ, Bool, false, cond, not, ◌&&◌, List, [], ◌∷◌, ◌++◌, map, eqb, ltb}
 use Rattle.sheet.specs.Lists.{concat_map, anyb, elemb, below}
-use Rattle.sheet.specs.Checks.{NONE, Check}
+use Rattle.sheet.specs.Checks as sheet
 use Rattle.exercise.specs.Exercise.{cell_count, exercise_checks}
 use Rattle.answer.specs.Answer.{place_count, answer_checks, wrong_answer_length}
 use Rattle.exercise.specs.declared.Record.{Record}
@@ -14,6 +14,7 @@ use Rattle.settings.specs.Settings.{settings_checks}
 use Rattle.lab_rules.specs.Rules.{lab_checks, route_of, lab_tries}
 use Rattle.tables.specs.Records.{cell, cell_numbers, malformed, double_driver}
 use Rattle.netlist.specs.Cells.{feeds, cell_checks}
+use Rattle.sheet.specs.Checks.{NONE}
 use Rattle.placing.specs.Places.{lab_at, out_of_range_at, place_taken, follows}
 use Rattle.placing.specs.Members.{members}
 use Rattle.verdict.specs.declared.Finding.{Finding}
@@ -22,32 +23,32 @@ use Rattle.verdict.specs.Numbers.{searched_numbers}
 use Rattle.verdict.specs.Verdicts.{finding, legal, verdict_of}
 use Rattle.judge.specs.Call.{Call, in_force}
 
--- one check with its place: what it finds, and whether it is broken
-pub record LocatedCheck : Type 0 where
+-- one check: what it finds, and whether it is broken
+pub record Check : Type 0 where
   pub finding : Finding
   pub broken : Bool
 
-abbrev pub sheet_check : ℕ → Bool → LocatedCheck
-sheet_check n b = record { finding = finding n NONE NONE; broken = b }
+abbrev pub check : ℕ → Bool → Check
+check n b = record { finding = finding n NONE NONE; broken = b }
 
-abbrev pub cell_check : ℕ → ℕ → Bool → LocatedCheck
+abbrev pub cell_check : ℕ → ℕ → Bool → Check
 cell_check n i b = record { finding = finding n i NONE; broken = b }
 
-abbrev pub lab_check : ℕ → ℕ → Bool → LocatedCheck
+abbrev pub lab_check : ℕ → ℕ → Bool → Check
 lab_check n l b = record { finding = finding n NONE l; broken = b }
 
--- such checks of a whole sheet, of cell i, and of LAB l
-abbrev pub of_sheet : List Check → List LocatedCheck
-of_sheet ks = map (λ k. sheet_check k.number k.broken) ks
+-- checks of a whole sheet, of cell i, and of LAB l, from their numbers
+abbrev pub of_sheet : List sheet.Check → List Check
+of_sheet ks = map (λ k. check k.number k.broken) ks
 
-abbrev pub of_cell : ℕ → List Check → List LocatedCheck
+abbrev pub of_cell : ℕ → List sheet.Check → List Check
 of_cell i ks = map (λ k. cell_check k.number i k.broken) ks
 
-abbrev pub of_lab : ℕ → List Check → List LocatedCheck
+abbrev pub of_lab : ℕ → List sheet.Check → List Check
 of_lab l ks = map (λ k. lab_check k.number l k.broken) ks
 
 -- one check for each cell, lowest cell first
-abbrev pub per_cell : ℕ → (ℕ → Bool) → List ℕ → List LocatedCheck
+abbrev pub per_cell : ℕ → (ℕ → Bool) → List ℕ → List Check
 per_cell n broken all = map (λ i. cell_check n i (broken i)) all
 
 -- 51: "a cell fed by a cout must stand in the same LAB, one LE number higher; .."
@@ -70,51 +71,51 @@ occupied c l = anyb (λ i. eqb (lab_at c.answer i) l) (cell_numbers c.exercise)
 -- ---- the order of checking, in the groups of document 01's table
 
 -- 1; M-106: "3 when the list isn't 1,024 long, right after 1"
-unfoldable pub room_checks : ℕ → ℕ → List LocatedCheck
-room_checks r n = sheet_check 1 (not (eqb r 8192)) ∷ sheet_check 3 (not (eqb n 1024)) ∷ []
+unfoldable pub room_checks : ℕ → ℕ → List Check
+room_checks r n = check 1 (not (eqb r 8192)) ∷ check 3 (not (eqb n 1024)) ∷ []
 
 -- 70 to 75: "all after 1 and before 10"
-unfoldable pub settings_group : List ℕ → List LocatedCheck
+unfoldable pub settings_group : List ℕ → List Check
 settings_group s = of_sheet (settings_checks s)
 
 -- 10 to 14; 15 over all cells; 16 over all cells
-unfoldable pub exercise_group : List ℕ → List LocatedCheck
+unfoldable pub exercise_group : List ℕ → List Check
 exercise_group e = of_sheet (exercise_checks e) ++ (per_cell 15 (malformed e) (cell_numbers e) ++ per_cell 16 (double_driver e) (cell_numbers e))
 
 -- 20 to 23; 24; 25; 26 over all cells
-unfoldable pub answer_group : List ℕ → List ℕ → List LocatedCheck
+unfoldable pub answer_group : List ℕ → List ℕ → List Check
 answer_group e a =
     of_sheet (answer_checks a)
-    ++ (sheet_check 24 (not (eqb (place_count a) (cell_count e)))
-    ∷ sheet_check 25 (wrong_answer_length a)
+    ++ (check 24 (not (eqb (place_count a) (cell_count e)))
+    ∷ check 25 (wrong_answer_length a)
     ∷ per_cell 26 (out_of_range_at a) (cell_numbers e))
 
 -- 30 to 44: lowest cell, then lowest number
-unfoldable pub cell_group : List ℕ → List LocatedCheck
+unfoldable pub cell_group : List ℕ → List Check
 cell_group e = concat_map (λ i. of_cell i (cell_checks e i)) (cell_numbers e)
 
 -- 50 over all cells, then 51 over all cells
-unfoldable pub place_group : List ℕ → List ℕ → List LocatedCheck
+unfoldable pub place_group : List ℕ → List ℕ → List Check
 place_group e a = per_cell 50 (place_taken e a) (cell_numbers e) ++ per_cell 51 (carry_not_next e a) (cell_numbers e)
 
 -- 60 to 65: lowest LAB number, then lowest rule
-unfoldable pub lab_group : Call → List LocatedCheck
+unfoldable pub lab_group : Call → List Check
 lab_group c = concat_map (λ l. of_lab l (lab_checks (in_force c) (lab_cells c l))) (below 1024)
 
 -- 10 to 51, of exercise and answer
-unfoldable pub sheet_checks : List ℕ → List ℕ → List LocatedCheck
+unfoldable pub sheet_checks : List ℕ → List ℕ → List Check
 sheet_checks e a = exercise_group e ++ (answer_group e a ++ (cell_group e ++ place_group e a))
 
 -- the "rules up to 51": "with 70 to 75 .. among" them, and 3
-unfoldable pub checks_to51 : Call → List LocatedCheck
+unfoldable pub checks_to51 : Call → List Check
 checks_to51 c = room_checks c.room c.slots ++ (settings_group c.settings ++ sheet_checks c.exercise c.answer)
 
 -- ALL CHECKS, IN THE ORDER OF CHECKING
-unfoldable pub checks : Call → List LocatedCheck
+unfoldable pub checks : Call → List Check
 checks c = checks_to51 c ++ lab_group c
 
 -- what the first broken check finds, or that none is broken
-abbrev pub first_broken : List LocatedCheck → Finding
+abbrev pub first_broken : List Check → Finding
 first_broken [] = legal
 first_broken (k ∷ ks) = let later = first_broken ks in cond k.broken k.finding later
 

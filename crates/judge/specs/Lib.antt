@@ -5,5 +5,4 @@ pub mod Tried
 pub mod Culprit
 pub mod Ring
 pub mod AsBefore
-pub mod Serves
 pub mod passes

@@ -24,20 +24,20 @@ fn read_sheet(path: &[u8], buf: &mut [u8]) -> usize
     n
 }
 
-// Writes the listing on the board of document 01 to standard output.
-fn show(exercise: &[u8], answer: &[u8]) {
+// Writes the listing of an exercise and an answer on the board of a settings sheet to standard output.
+fn show(settings: &[u8], exercise: &[u8], answer: &[u8]) {
     let mut out = [0u8; listing::MOST];
-    let n = listing::house_listing(exercise, answer, &mut out);
+    let n = listing::listing(settings, exercise, answer, &mut out);
     io::write_all(STDOUT_FILENO, &out[..n]);
 }
 
-// Writes the listing on the board of the settings sheet on standard input to standard output.
-fn show_on_settings(exercise: &[u8], answer: &[u8]) {
-    let mut settings = [0u8; SETTINGS_ROOM];
-    let size = io::read_full(STDIN_FILENO, &mut settings);
-    let mut out = [0u8; listing::MOST];
-    let n = listing::listing(&settings[..size], exercise, answer, &mut out);
-    io::write_all(STDOUT_FILENO, &out[..n]);
+// Writes the listing of the sheets in the current directory.
+fn judge_folder(settings: &[u8]) {
+    let mut exercise = [0u8; EXERCISE_ROOM];
+    let mut answer = [0u8; ANSWER_ROOM];
+    let n = read_sheet(b"exercise.lxe", &mut exercise);
+    let m = read_sheet(b"answer.lxa", &mut answer);
+    show(settings, &exercise[..n], &answer[..m]);
 }
 
 // Whether two texts are the same.
@@ -63,13 +63,12 @@ fn wants_settings() -> bool {
 }
 
 fn main() {
-    let mut exercise = [0u8; EXERCISE_ROOM];
-    let mut answer = [0u8; ANSWER_ROOM];
-    let n = read_sheet(b"exercise.lxe", &mut exercise);
-    let m = read_sheet(b"answer.lxa", &mut answer);
     if wants_settings() {
-        show_on_settings(&exercise[..n], &answer[..m]);
+        let mut settings = [0u8; SETTINGS_ROOM];
+        let n = io::read_full(STDIN_FILENO, &mut settings);
+        judge_folder(&settings[..n]);
         return;
     }
-    show(&exercise[..n], &answer[..m]);
+    let house = settings::house_settings();
+    judge_folder(&house);
 }

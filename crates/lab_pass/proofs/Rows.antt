@@ -19,7 +19,7 @@ use Rattle.lab_nets.specs.passes.Uses.{nets_within}
 use Rattle.lab_rules.specs.passes.Counts.{no_counts, counts_all, broken_by, needs_held, routed_result, result_from, searched}
 use Rattle.lab_rules.specs.declared.Counts.{Counts}
 use Rattle.lab_pass.specs.passes.Results.{search_of, put_row, put_rows}
-use Rattle.sheet.proofs.Filling.{row_from, row_length, row_at, Written, write_starts, write_goes, write_left, write_ends}
+use Rattle.sheet.proofs.Filling.{row_from, row_length, row_at_lem, Written, write_starts, write_goes, write_left, write_ends}
 
 row_append : (g : ℕ → ℕ) (i m n : ℕ) → row_from g i (m + n) ≡ row_from g i m ++ row_from g (i + m) n
 unfolding row_from
@@ -44,7 +44,7 @@ module _ (some : ℕ → Bool) (g : ℕ → List ℕ) where
       let low : j < 8 = omega (arith, row_length byte_of (8 * i) 8) in
       let lab : (8 * i + j) / 8 ≡ i = omega arith in
       let place : (8 * i + j) % 8 ≡ j = omega arith in
-      row_at byte_of (8 * i) 8 j low ∙ rw (lab, place))
+      row_at_lem byte_of (8 * i) 8 j low ∙ rw (lab, place))
 
   rows_from : (i k : ℕ) → ((l : ℕ) → l < i + k → length (g l) ≡ 8) → row_from byte_of (8 * i) (8 * k) ≡ concat_map g (from i k)
   rows_from i zero h = row_none byte_of (8 * i)

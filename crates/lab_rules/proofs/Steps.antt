@@ -22,8 +22,7 @@ use Rattle.entries.specs.declared.Need.{Need}
 use Rattle.entries.specs.declared.Needs.{Needs}
 use Rattle.route.specs.declared.LabRoute.{LabRoute}
 use Rattle.route.specs.declared.RouteSearch.{RouteSearch}
-use Rattle.entries.specs.Table.{Table, CLK, ENA, ACLR, SCLR, SLOAD}
-use Rattle.entries.specs.passes.Rows.{with_need, need_list, needs_of, no_needs}
+use Rattle.entries.specs.Table.{Table, CLK, ENA, ACLR, SCLR, SLOAD, with_need, need_list, needs_of, no_needs}
 use Rattle.route.specs.Way.{earliest_way}
 use Rattle.route.specs.Route.{lab_route_of}
 use Rattle.route.specs.Tries.{tries}

@@ -10,7 +10,8 @@ use Rattle.sheet.specs.Bytes.{part_at}
 use Rattle.exercise.specs.Exercise.{cell_count}
 use Rattle.sheet.proofs.Laws.{by_test}
 use Rattle.entries.specs.Table.{Table}
-use Rattle.lab_rules.specs.Rules.{lab_checks, lab_number, route_of, lab_result}
+use Rattle.route.specs.Way.{earliest_way}
+use Rattle.lab_rules.specs.Rules.{needs, lab_checks, lab_number, route_of, lab_result}
 use Rattle.lab_rules.specs.declared.LabResult.{LabResult}
 use Rattle.sheet.specs.Checks.{NONE}
 use Rattle.placing.specs.Members.{members}
@@ -25,7 +26,7 @@ use Rattle.judge.proofs.LabsFound.{labs_finds}
 use Rattle.judge.proofs.Numbers.{lab_numbered}
 use Rattle.judge.proofs.Held.{hold_number, lab_holds}
 use Rattle.judge.proofs.Refusal65.{lab_to}
-use Rattle.judge.proofs.RouteHeld.{part_at_lem}
+use Rattle.judge.proofs.RouteHeld.{row_part, route_eight, written}
 use Rattle.exercise.specs.Record.{Cell}
 use Rattle.list_check.specs.ListCheck.{list_verdict}
 use Rattle.list_check.specs.Agreement.{ListOf, ListLaw}
@@ -89,11 +90,14 @@ module _ (c : Call) (l : ℕ) (cs : List Cell) (low : l < 1024) (held : AllHold 
   no_number z = hold_number l (lab_checks t (lab_cells c l)) (lab_holds c z l low)
 
   legal : (before : List ℕ) → (judged c).number ≡ 0 → ((list_verdict s cs).number ≡ 0) × (part_at (routed c before) (8 * l) 8 ≡ (list_verdict s cs).bytes)
-  unfolding lab_result
+  unfolding lab_result route_of
   legal before z =
       let n = no_number z in
-      let bytes : (list_verdict s cs).bytes ≡ route_of t (lab_cells c l) = ap (λ (r : LabResult). r.bytes) lab_result_lem ∙ rw n in
-      (list_number_lem ∙ n, part_at_lem c before z l low ∙ sym bytes)
+      let bytes : (list_verdict s cs).bytes ≡ route_of t (lab_cells c l) = ap (λ (r : LabResult). r.bytes) lab_result_lem ∙ rw n in (
+        list_number_lem ∙ n,
+        rw (written c before z, bytes)
+            (row_part (λ j. route_of t (lab_cells c j)) (λ j. route_eight (needs (lab_cells c j)) (earliest_way t (needs (lab_cells c j)))) 1024 l low),
+      )
 
 pub list_law : ListLaw
 unfolding ListLaw

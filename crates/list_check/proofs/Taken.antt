@@ -18,8 +18,7 @@ use Rattle.exercise.specs.declared.Record.TheVariants.{Register}
 use Rattle.sheet.proofs.Laws.{by_test, or_parts}
 use Rattle.distinct.specs.passes.Marks.{Marking, marking, mark_all}
 use Rattle.distinct.proofs.Nets.{lower_none}
-use Rattle.entries.specs.Table.{Table}
-use Rattle.entries.specs.passes.Rows.{eight_rows}
+use Rattle.entries.specs.Table.{Table, eight_rows}
 use Rattle.settings.specs.Settings.{settings_checks, settings_number, table_of}
 use Rattle.settings.proofs.Laws.{same_table}
 use Rattle.sheet.proofs.Checks.{in_turn}

@@ -15,11 +15,12 @@ use Rattle.sheet.specs.Lists.{concat_map, filterb, anyb, from}
 use Rattle.sheet.specs.Bytes.{byte_at}
 use Rattle.exercise.specs.Exercise.{cell_count}
 use Rattle.sheet.proofs.Laws.{by_test}
-use Rattle.lab_rules.specs.Rules.{route_of}
+use Rattle.route.specs.Way.{earliest_way}
+use Rattle.lab_rules.specs.Rules.{needs, route_of}
 use Rattle.placing.specs.Places.{lab_at}
 use Rattle.judge.specs.Call.{Call, in_force}
 use Rattle.judge.specs.Judge.{lab_cells, occupied, judged, routed}
-use Rattle.judge.proofs.RouteHeld.{byte_at_lem}
+use Rattle.judge.proofs.RouteHeld.{row_at_lem, route_eight, written}
 use Rattle.listing.specs.passes.Writes.{Writes}
 use Rattle.listing.specs.Listing.{lab_line, lab_lines}
 use Rattle.listing.specs.passes.Marks.{marked_from, is_marked, row_at, line_at, lines_from}
@@ -109,7 +110,10 @@ module _ (c : Call) (before : List ℕ) (legal : (judged c).number ≡ 0) where
 
   -- byte j of LAB l in the route buffer
   byte_of : (l j : ℕ) → l < 1024 → j < 8 → byte_at route (8 * l + j) ≡ get_or (bytes l) j 0
-  byte_of l j h s = byte_at_lem c before legal l j h s
+  unfolding route_of
+  byte_of l j h s =
+      rw (written c before legal)
+      (row_at_lem bytes (λ i. route_eight (needs (lab_cells c i)) (earliest_way (in_force c) (needs (lab_cells c i)))) 1024 l j h s)
 
   line_same : (l : ℕ) → l < 1024 → lab_line l (row_at route l) ≡ lab_line l (bytes l)
   unfolding lab_line row_at

@@ -3,7 +3,6 @@
 --     Kind                      the struct that a reader is, its fields, and the definitions of which number applies, what it gives, where it goes on
 --     exercise, answer          the two
 --     head_spec, sheet_spec       the contract of a function that takes a slice and answers f of it, and of one that takes a slice and a number
---     Says                      what is said of a step: which it is, its number and its values
 --     step_ens, after_ens         what the two of the latter ensure
 --     next_ended, next_clauses    the signature of a function to which the struct is lent, and its contract, over what it ensures
 --     read_ended, read_clauses    the same of one that takes a slice and a number lent
@@ -79,19 +78,9 @@ pub record Kind : Type 2 where
 pub says_by : {M : Type 1} {𝓤 : Ura M} {𝓛 : Logic 𝓤} {K : Type 0} {Γ : List (Item 𝓤)} → K → {P Q : SProp 𝓤} → ent 𝓤 (emp 𝓤) Q → Step K 𝓛 Γ (prop P) Γ (prop (sep 𝓤 P Q))
 says_by {𝓤 = 𝓤} t {P} {Q} x = step (λ s. record { prf = via 𝓤 P s.prf (via 𝓤 (sep 𝓤 (emp 𝓤) P) (emp∗ 𝓤 P) (via 𝓤 (sep 𝓤 Q P) (mono_l 𝓤 P x) (comm∗ 𝓤 Q P))) })
 
-module _ {M : Type 1} (𝓤 : Ura M) where
-  -- a fact of a clause, beside those of the clauses after it
-  says_also : (φ : Type 0) (Q : SProp 𝓤) → φ → ent 𝓤 (emp 𝓤) Q → ent 𝓤 (emp 𝓤) (sep 𝓤 (fact 𝓤 φ) Q)
-  says_also φ Q x q = via 𝓤 Q q (via 𝓤 (sep 𝓤 (emp 𝓤) Q) (emp∗ 𝓤 Q) (mono_l 𝓤 Q (fact_i 𝓤 φ (emp 𝓤) x)))
-
-  -- the facts of a contract that has two clauses, and of one that has four
-  pub says_both : (φ ψ : Type 0) → φ × ψ → ent 𝓤 (emp 𝓤) (sep 𝓤 (fact 𝓤 φ) (fact 𝓤 ψ))
-  says_both φ ψ x = says_also φ (fact 𝓤 ψ) x.0 (fact_i 𝓤 ψ (emp 𝓤) x.1)
-
-  pub says_four : (φ ψ χ ω : Type 0) → φ × (ψ × (χ × ω)) → ent 𝓤 (emp 𝓤) (sep 𝓤 (fact 𝓤 φ) (sep 𝓤 (fact 𝓤 ψ) (sep 𝓤 (fact 𝓤 χ) (fact 𝓤 ω))))
-  says_four φ ψ χ ω x =
-      says_also φ (sep 𝓤 (fact 𝓤 ψ) (sep 𝓤 (fact 𝓤 χ) (fact 𝓤 ω))) x.0
-      (says_also ψ (sep 𝓤 (fact 𝓤 χ) (fact 𝓤 ω)) x.1.0 (says_both χ ω x.1.1))
+-- two facts of a contract that has two clauses
+pub says_both : {M : Type 1} (𝓤 : Ura M) (φ ψ : Type 0) → φ × ψ → ent 𝓤 (emp 𝓤) (sep 𝓤 (fact 𝓤 φ) (fact 𝓤 ψ))
+says_both 𝓤 φ ψ x = via 𝓤 (fact 𝓤 ψ) (fact_i 𝓤 ψ (emp 𝓤) x.1) (via 𝓤 (sep 𝓤 (emp 𝓤) (fact 𝓤 ψ)) (emp∗ 𝓤 (fact 𝓤 ψ)) (mono_l 𝓤 (fact 𝓤 ψ) (fact_i 𝓤 φ (emp 𝓤) x.0)))
 
 -- ---- the struct
 module _ (K : Kind) where
@@ -143,10 +132,6 @@ module _ (X : RattleType) where
 
     abbrev pub sheet_spec : Contract 𝓤
     sheet_spec = triple_of 𝓛 sheet_ended.signature (closing 𝓛 sheet_ended sheet_clauses)
-
--- of a step r, where the sheet s stands at n: which it is, its number and its values
-abbrev pub Says : (K : Kind) → List ℕ → ℕ → K.Step.Denot → Type 0
-Says K s n r = (r ≡ K.step_at s n) × ((K.number r ≡ K.number_at s n) × (K.values r ≡ K.values_at s n))
 
 module _ {M : Type 1} (𝓤 : Ura M) (K : Kind) where
   -- of what stands at a number: the step, its number and its values; of the number after it: the number

@@ -19,7 +19,7 @@ use prog.Routine.{Name}
 use prog.Wp.{Calls, Loops, WpFn, Tables}
 use types.Logic.{Logic, sem}
 use contract.Lifetimes.{Lfts, AllOutlive}
-use contract.Monad.{fact, fact_use, fact_mono}
+use contract.Monad.{fact}
 use types.Kit.{‵, raw, ◌⊛◌, given, ⋆, some, later, ◌$◌, ◌∵◌, !, qed, by, move, keep, drop, use1, use2, split, join, learn, pick, fsplit, fsplit3, fjoin, fjoin3, feq_i, suffices, frame, await, done, rewrite}
 use types.Part.{whole, sub, look_in, store_in}
 use types.Run.{look, init, store, forget, stop, hop, fld, from, load, of_opd, and_then, no_more, assigns, land, returns, enter, alloc1, alloc0, params1, pass1, pass0, free1, free0}
@@ -46,7 +46,7 @@ use denote.Triple.Entry.{Args, on_entry}
 use denote.Triple.Spec.{Meets}
 use denote.Triple.Walked.{Stays, stay_ref, walk_of, Goes-ref, ends_at, walked, walk_Meets}
 use denote.Triple.Clauses.{at_exit, ensured, lasts, closing}
-use Rattle.reader.proofs.Kind.{Kind, Fields, says_by, type_at, row_at, laws_at, copy_at, bytes_ty, reader_ty, mach, sheet_ended, SheetEns, sheet_clauses, sheet_spec, Says, step_ens, after_ens, behind, next_ended, NextEns, next_clauses}
+use Rattle.reader.proofs.Kind.{Kind, Fields, says_by, type_at, row_at, laws_at, copy_at, bytes_ty, reader_ty, mach, sheet_ended, SheetEns, sheet_clauses, sheet_spec, step_ens, after_ens, behind, next_ended, NextEns, next_clauses}
 
 abbrev pub next_function : Kind → Name → Name → Fn
 next_function K step-key next-key = record {
@@ -68,7 +68,7 @@ abbrev next_stayed : (K : Kind) → Stays (next_ended K).signature.params (next_
 next_stayed K = (stay_ref (0 ∷ []) tt (behind K), tt)
 
 module _ {M : Type 1} {𝓤 : Ura M} (𝓛 : Logic 𝓤) (K : Kind) (ens : NextEns 𝓤 K)
-    (holds : (κs : Lfts 2) (a : Args (next_ended K).signature κs) (r : K.Step.Denot) (n : ℕ) → Says K (K.fields a.0.now).0.now (K.fields a.0.now).1.0 r → n ≡ K.next_at (K.fields a.0.now).0.now (K.fields a.0.now).1.0
+    (holds : (κs : Lfts 2) (a : Args (next_ended K).signature κs) (r : K.Step.Denot) (n : ℕ) → r ≡ K.step_at (K.fields a.0.now).0.now (K.fields a.0.now).1.0 → n ≡ K.next_at (K.fields a.0.now).0.now (K.fields a.0.now).1.0
     → ent 𝓤 (emp 𝓤) (ens κs a r (at_exit (next_ended K) κs a (K.make (K.fields a.0.now).0 n, tt)))) (step-key next-key : Name) where
   -- the contracts that the walk cites
   open 𝓛 use {H}
@@ -141,15 +141,9 @@ module _ {M : Type 1} {𝓤 : Ura M} (𝓛 : Logic 𝓤) (K : Kind) (ens : NextE
     said : (X : RattleType) (says : SheetEns X 𝓤) (r : X.Denot) (φ : Type 0) → ent 𝓤 (says s.now n r) (fact 𝓤 φ) → ent 𝓤 (ensured 𝓛 (sheet_ended X) (sheet_clauses X 𝓛 says) (κ', tt) (s, (n, tt)) tt r) (fact 𝓤 φ)
     said X says r φ tells = ex_e 𝓤 _ (λ ws. via 𝓤 (says s.now n r) (snd∗ 𝓤 (sem 𝓛 (lasts (sheet_ended X) (κ', tt) (s, (n, tt)) ws)) (says s.now n r)) tells)
 
-    -- all that the clauses of a step say
-    told : (r : K.Step.Denot) → ent 𝓤 (step_ens 𝓤 K s.now n r) (fact 𝓤 (Says K s.now n r))
-    told r =
-        let one = fact 𝓤 (r ≡ K.step_at s.now n) in
-        let two = fact 𝓤 (K.number r ≡ K.number_at s.now n) in
-        let three = fact 𝓤 (K.values r ≡ K.values_at s.now n) in
-        fact_use 𝓤 (r ≡ K.step_at s.now n) (fst∗ 𝓤 one (sep 𝓤 two three)) (λ x. via 𝓤 (sep 𝓤 two three) (snd∗ 𝓤 one (sep 𝓤 two three))
-        (fact_use 𝓤 (K.number r ≡ K.number_at s.now n) (fst∗ 𝓤 two three) (λ y. via 𝓤 three (snd∗ 𝓤 two three)
-        (fact_mono 𝓤 (K.values r ≡ K.values_at s.now n) (Says K s.now n r) (λ z. (x, (y, z)))))))
+    -- of the clauses of a step, the one that says which it is
+    told : (r : K.Step.Denot) → ent 𝓤 (step_ens 𝓤 K s.now n r) (fact 𝓤 (r ≡ K.step_at s.now n))
+    told r = fst∗ 𝓤 (fact 𝓤 (r ≡ K.step_at s.now n)) (sep 𝓤 (fact 𝓤 (K.number r ≡ K.number_at s.now n)) (fact 𝓤 (K.values r ≡ K.values_at s.now n)))
 
     -- the struct at the number m: what the slice owns is kept, and the number's facts are made anew
     abbrev moved : ℕ → K.Reader
@@ -159,7 +153,7 @@ module _ {M : Type 1} {𝓤 : Ura M} (𝓛 : Logic 𝓤) (K : Kind) (ens : NextE
     again m fits = subst (λ (v : Fields). ent 𝓤 (sem 𝓛 Own) (sem 𝓛 ((Struct (shape D)).own_val v (mach s m ∷ [])))) (sym (K.make_is s m))
         (qed 𝓛 (‵ Own ∷ []) ∵ owned ! u16 (Is u16) (uint_Makes 𝓛 w16) m _ (refl, fits) $ move ! (1 ∷ 0 ∷ []) $ by ! (own_put 𝓛 D L 1 vd m (mach s n)))
 
-    exits : (r : K.Step.Denot) (u : Val) (m : ℕ) → Says K s.now n r → m ≡ K.next_at s.now n
+    exits : (r : K.Step.Denot) (u : Val) (m : ℕ) → r ≡ K.step_at s.now n → m ≡ K.next_at s.now n
         → ent 𝓤 (⋆ 𝓛 (‵ (fobs γ (R.coded.code (moved m))) ∷ ‵ (fbor κ (Body (mem R) b o γ)) ∷ ‵ (flft κ q) ∷ (‵ (flft κ' q') ⊛ ‵ ftrue) ∷ ‵ (K.Step.own_val r (u ∷ [])) ∷ [])) (Post u)
     exits r u m e e' =
         qed 𝓛 (‵ (fobs γ (R.coded.code (moved m))) ∷ ‵ (fbor κ (Body (mem R) b o γ)) ∷ ‵ (flft κ q) ∷ (‵ (flft κ' q') ⊛ ‵ ftrue) ∷ ‵ (K.Step.own_val r (u ∷ [])) ∷ []) ∵
@@ -186,7 +180,7 @@ module _ {M : Type 1} {𝓤 : Ura M} (𝓛 : Logic 𝓤) (K : Kind) (ens : NextE
           move ! (1 ∷ 5 ∷ []) $ use2 𝓛 (raw (StepAt.pre (to K.Step (step_ens 𝓤 K))) ⊛ ‵ Own) (goes K.Step (step_ens 𝓤 K) (typed was).1.1.0.fits) $ split ! $
           calls_at ! fm StepAt Known-step (to K.Step (step_ens 𝓤 K)) (and_then ! (load ! (from ! (stop !)) (look ! 11 refl)) (and_then ! (load ! (from ! (stop !)) (look ! 9 refl)) (no_more !))) (λ u.
           use1 𝓛 (later (some (λ (r : K.Step.Denot). ((‵ (flft κ' q') ⊛ ‵ ftrue) ⊛ ‵ (K.Step.own_val r (u ∷ []))) ⊛ raw (ensured 𝓛 (sheet_ended K.Step) (sheet_clauses K.Step 𝓛 (step_ens 𝓤 K)) (κ', tt) (s, (n, tt)) tt r)))) (id⊢ 𝓤 _) $ await ! tt $ pick ! (λ r.
-          split ! $ move ! (1 ∷ []) $ use1 𝓛 (raw (fact 𝓤 (Says K s.now n r))) (said K.Step (step_ens 𝓤 K) r (Says K s.now n r) (told r)) $ heard ! (Says K s.now n r) (λ e. split ! $ move ! (1 ∷ []) $
+          split ! $ move ! (1 ∷ []) $ use1 𝓛 (raw (fact 𝓤 (r ≡ K.step_at s.now n))) (said K.Step (step_ens 𝓤 K) r (r ≡ K.step_at s.now n) (told r)) $ heard ! (r ≡ K.step_at s.now n) (λ e. split ! $ move ! (1 ∷ []) $
           -- [the step; 'a's token; what the struct owns; its cell; the open borrow; obs; auth; true; _5; …; _4; …; _3; …; room for _2; …; _1; …; room for _0; …]
           peeks ! K.Step (Is K.Step) (shows 𝓛 K.Step) r (u ∷ []) (λ is.
           land ! (from ! (stop !)) (init ! 14 refl (K.step_Typed 𝓛 r u is)) $

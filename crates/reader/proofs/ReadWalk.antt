@@ -48,7 +48,7 @@ use denote.Triple.Walked.{Stays, stay_ref, stay_none_slice, walk_of, Goes-ref, G
 use denote.Exit.{yes}
 use denote.Triple.Clauses.{at_exit, ensured, lasts, closing}
 use borrow.Within.Token.{Rest, within_token, within_end}
-use Rattle.reader.proofs.Kind.{Kind, Fields, says_by, type_at, row_at, laws_at, bytes_ty, reader_ty, mach, Says, next_ended, NextEns, next_clauses, read_ended, ReadEns, read_clauses}
+use Rattle.reader.proofs.Kind.{Kind, Fields, says_by, type_at, row_at, laws_at, bytes_ty, reader_ty, mach, next_ended, NextEns, next_clauses, read_ended, ReadEns, read_clauses}
 
 abbrev pub read_function : Kind → Name → Fn
 read_function K next-key = record {
@@ -69,7 +69,7 @@ abbrev read_stayed : (K : Kind) → Stays (read_ended K).signature.params (read_
 read_stayed K = (stay_none_slice (0 ∷ []) tt (plain (λ _. u8)) yes, (stay_ref (1 ∷ []) tt (plain (λ _. u16)), tt))
 
 module _ {M : Type 1} {𝓤 : Ura M} (𝓛 : Logic 𝓤) (K : Kind) (ens : ReadEns 𝓤 K)
-    (holds : (κs : Lfts 2) (a : Args (read_ended K).signature κs) (r : K.Step.Denot) (n : ℕ) → Says K a.0.now a.1.0.now r → n ≡ K.next_at a.0.now a.1.0.now
+    (holds : (κs : Lfts 2) (a : Args (read_ended K).signature κs) (r : K.Step.Denot) (n : ℕ) → r ≡ K.step_at a.0.now a.1.0.now → n ≡ K.next_at a.0.now a.1.0.now
     → ent 𝓤 (emp 𝓤) (ens κs a r (at_exit (read_ended K) κs a (tt, (n, tt))))) (next-key : Name) where
   -- what the callee ensures of its result r and of the struct's last value d, where it was lent h
   open 𝓛 use {H}
@@ -77,18 +77,11 @@ module _ {M : Type 1} {𝓤 : Ura M} (𝓛 : Logic 𝓤) (K : Kind) (ens : ReadE
   abbrev Gives : K.Reader → K.Step.Denot → Type 0
   Gives h r = r ≡ K.step_at (K.fields h).0.now (K.fields h).1.0
 
-  abbrev Numbers : K.Reader → K.Step.Denot → Type 0
-  Numbers h r = K.number r ≡ K.number_at (K.fields h).0.now (K.fields h).1.0
-
-  abbrev Values : K.Reader → K.Step.Denot → Type 0
-  Values h r = K.values r ≡ K.values_at (K.fields h).0.now (K.fields h).1.0
-
   abbrev Moves : K.Reader → K.Reader → Type 0
   Moves h d = ((K.fields d).0 ≡ (K.fields h).0) × ((K.fields d).1.0 ≡ K.next_at (K.fields h).0.now (K.fields h).1.0)
 
   abbrev next_says : NextEns 𝓤 K
-  next_says κs a r e =
-      sep 𝓤 (fact 𝓤 (Gives a.0.now r)) (sep 𝓤 (fact 𝓤 (Numbers a.0.now r)) (sep 𝓤 (fact 𝓤 (Values a.0.now r)) (fact 𝓤 (Moves a.0.now e.0.now))))
+  next_says κs a r e = sep 𝓤 (fact 𝓤 (Gives a.0.now r)) (fact 𝓤 (Moves a.0.now e.0.now))
 
   -- the contract that the walk cites
   abbrev Next : Contract 𝓤
@@ -166,12 +159,12 @@ module _ {M : Type 1} {𝓤 : Ura M} (𝓛 : Logic 𝓤) (K : Kind) (ens : ReadE
         qed 𝓛 (‵ ((MutRef (named 0) (ν ∷ κ) R).own_val (lent l δ) (vptr l 0 ∷ [])) ∷ ‵ (flft (ν ∷ κ) (PosShare.left q)) ∷ ‵ (flft κ (PosShare.right q)) ∷ []) ∵
         nothing ! $ move ! (1 ∷ 0 ∷ []) $ fjoin ! $ nothing ! $ move ! (3 ∷ 0 ∷ []) $ join ! $ move ! (2 ∷ 0 ∷ []) $ join ! $ join ! $ frame ! $ done !
 
-    exits : (r : K.Step.Denot) (u : Val) (d : K.Reader) → Says K (K.fields made).0.now (K.fields made).1.0 r → Moves made d
+    exits : (r : K.Step.Denot) (u : Val) (d : K.Reader) → Gives made r → Moves made d
         → ent 𝓤 (⋆ 𝓛 (‵ (fobs γ (u16.coded.code (K.fields d).1.0)) ∷ ‵ (fbor κ' (Body (mem u16) b o γ)) ∷ ‵ (flft κ' q') ∷ ‵ (flft κ (PosShare.left q)) ∷ (‵ (flft κ (PosShare.right q)) ⊛ ‵ ftrue) ∷ ‵ (K.Step.own_val r (u ∷ [])) ∷ ‵ Own ∷ [])) (Post u)
     exits r u d e e' =
         qed 𝓛 (‵ (fobs γ (u16.coded.code (K.fields d).1.0)) ∷ ‵ (fbor κ' (Body (mem u16) b o γ)) ∷ ‵ (flft κ' q') ∷ ‵ (flft κ (PosShare.left q)) ∷ (‵ (flft κ (PosShare.right q)) ⊛ ‵ ftrue) ∷ ‵ (K.Step.own_val r (u ∷ [])) ∷ ‵ Own ∷ []) ∵
         suffices ! _ (ends_at 𝓛 (read_ended K) (read_stayed K) (read_clauses 𝓤 K ens) (((κ, (κ', tt)), (q, (q', tt)), tt, a, vals), tt) u r (tt, ((K.fields d).1.0, tt)) (tt, (tt, tt))) $
-        says_by ! (holds (κ, (κ', tt)) a r (K.fields d).1.0 (subst (λ (w : Fields). Says K w.0.now w.1.0 r) (K.make_is s n) e) (e'.1 ∙ ap (λ (w : Fields). K.next_at w.0.now w.1.0) (K.make_is s n))) $
+        says_by ! (holds (κ, (κ', tt)) a r (K.fields d).1.0 (e ∙ ap (λ (w : Fields). K.step_at w.0.now w.1.0) (K.make_is s n)) (e'.1 ∙ ap (λ (w : Fields). K.next_at w.0.now w.1.0) (K.make_is s n))) $
         move ! (4 ∷ []) $ split ! $ move ! (5 ∷ 0 ∷ []) $ use2 𝓛 (‵ (flft κ q)) (𝓛.lfts.lft_join κ q) $
         -- [the slice's token; true; obs; the borrow; the number's token; the result; what s owns]
         move ! (4 ∷ 1 ∷ []) $ join ! $ move ! (1 ∷ 0 ∷ []) $ join ! $ frame ! $ feq_i ! (List Val) (vptr b o ∷ []) (vptr b o ∷ []) refl $ fjoin3 ! $ nothing ! $ move ! (1 ∷ 0 ∷ []) $ fjoin ! $ move ! (2 ∷ 0 ∷ []) $ fjoin ! $ frame ! $ done !
@@ -203,8 +196,8 @@ module _ {M : Type 1} {𝓤 : Ura M} (𝓛 : Logic 𝓤) (K : Kind) (ens : ReadE
           move ! (0 ∷ 2 ∷ 4 ∷ []) $ use3 𝓛 (raw (Next.pre (to_next ν l₃ δ))) (goes_next ν l₃ δ) $
           calls_at ! fm Next known (to_next ν l₃ δ) (and_then ! (load ! (from ! (stop !)) (look ! 8 refl)) (no_more !)) (λ u.
           use1 𝓛 (later (some (λ (r : K.Step.Denot). ((‵ (flft (ν ∷ κ) (PosShare.left q)) ⊛ ‵ (flft κ (PosShare.right q)) ⊛ ‵ ftrue) ⊛ ‵ (K.Step.own_val r (u ∷ []))) ⊛ raw (ensured 𝓛 (next_ended K) (next_clauses 𝓤 K next_says) (ν ∷ κ, (κ, tt)) (lent l₃ δ, tt) tt r)))) (id⊢ 𝓤 _) $ await ! tt $ pick ! (λ r.
-          split ! $ move ! (1 ∷ []) $ use1 𝓛 (some (λ (ds : K.Reader × Unit {0}). ‵ (lasts (next_ended K) (ν ∷ κ, (κ, tt)) (lent l₃ δ, tt) ds) ⊛ raw (fact 𝓤 (Gives made r)) ⊛ raw (fact 𝓤 (Numbers made r)) ⊛ raw (fact 𝓤 (Values made r)) ⊛ raw (fact 𝓤 (Moves made ds.0)))) (id⊢ 𝓤 _) $ pick ! (λ ds.
-          split ! $ move ! (1 ∷ []) $ split ! $ heard ! (Gives made r) (λ e. split ! $ heard ! (Numbers made r) (λ i. split ! $ heard ! (Values made r) (λ j. heard ! (Moves made ds.0) (λ e'. fsplit ! $ move ! (2 ∷ []) $ split ! $ move ! (1 ∷ []) $
+          split ! $ move ! (1 ∷ []) $ use1 𝓛 (some (λ (ds : K.Reader × Unit {0}). ‵ (lasts (next_ended K) (ν ∷ κ, (κ, tt)) (lent l₃ δ, tt) ds) ⊛ raw (fact 𝓤 (Gives made r)) ⊛ raw (fact 𝓤 (Moves made ds.0)))) (id⊢ 𝓤 _) $ pick ! (λ ds.
+          split ! $ move ! (1 ∷ []) $ split ! $ heard ! (Gives made r) (λ e. heard ! (Moves made ds.0) (λ e'. fsplit ! $ move ! (2 ∷ []) $ split ! $ move ! (1 ∷ []) $
           -- [the step; the tokens; the last value; true; the lender's part; ν's way back; what s owns; the number's cell; the open borrow; obs; auth; _6; …; _5; …; room for _4; …; …; _2; …; _1; …; room for _0; …]
           peeks ! K.Step (Is K.Step) (shows 𝓛 K.Step) r (u ∷ []) (λ is.
           land ! (from ! (stop !)) (init ! 15 refl (K.step_Typed 𝓛 r u is)) $
@@ -220,7 +213,7 @@ module _ {M : Type 1} {𝓤 : Ura M} (𝓛 : Logic 𝓤) (K : Kind) (ens : ReadE
           -- [obs; the borrow; the number's token; _3; the slice's token, in two; the step; true; what s owns; _6; …; _5; …; _4; …; …; _2; …; _1; …; _0; …]
           returns ! (look ! 20 refl) $ forget ! 3 refl $ forget ! 9 refl $ forget ! 11 refl $ forget ! 13 refl $ forget ! 16 refl $ forget ! 18 refl $ forget ! 20 refl $
           move ! (20 ∷ 21 ∷ []) $ free1 ! $ move ! (18 ∷ 19 ∷ []) $ free1 ! $ move ! (16 ∷ 17 ∷ []) $ free1 ! $ move ! (3 ∷ 15 ∷ []) $ free1 ! $ move ! (12 ∷ 13 ∷ []) $ free1 ! $ move ! (10 ∷ 11 ∷ []) $ free1 ! $ move ! (8 ∷ 9 ∷ []) $ free1 ! $ free0 ! $
-          keep ! (0 ∷ 1 ∷ 2 ∷ 3 ∷ 4 ∷ 5 ∷ 7 ∷ []) $ by ! (exits r u ds.0 (e, (i, j)) e')))))))))))))))))))))
+          keep ! (0 ∷ 1 ∷ 2 ∷ 3 ∷ 4 ∷ 5 ∷ 7 ∷ []) $ by ! (exits r u ds.0 e e')))))))))))))))))))
 
   pub read_meets : (𝓣 : Tables 𝓤 H) → Triple 𝓤 (𝓣.C next-key) Next
       → Meets 𝓛 (read_ended K).signature (WpFn 𝓤 H 𝓣.C 𝓣.Λ (read_function K next-key)) (closing 𝓛 (read_ended K) (read_clauses 𝓤 K ens))

@@ -126,8 +126,6 @@ pub fn open_exercise<'a>(sheet: &'a [u8], number: &mut u8) -> ExerciseReader<'a>
 // Gives the next record of an exercise and moves on. At the end, and at a record that breaks its layout, it says so and stays put.
 pub fn next_record<'s, 'a>(r: &'s mut ExerciseReader<'a>) -> ExerciseStep
     ensures given { result ≡ exercise_step_at r.old.sheet.now r.old.at }
-    ensures number { step_number result ≡ exercise_number_at r.old.sheet.now r.old.at }
-    ensures values { step_values result ≡ exercise_values_at r.old.sheet.now r.old.at }
     ensures moved { (r.new.sheet ≡ r.old.sheet) × (r.new.at ≡ next_exercise r.old.sheet.now r.old.at) }
 {
     let step = exercise_step(r.sheet, r.at);
@@ -147,8 +145,6 @@ pub fn open_answer<'a>(sheet: &'a [u8], number: &mut u8) -> AnswerReader<'a>
 // Gives the next place record of an answer and moves on, or says the end or a broken record and stays put.
 pub fn next_place<'s, 'a>(r: &'s mut AnswerReader<'a>) -> AnswerStep
     ensures given { result ≡ answer_step_at r.old.sheet.now r.old.at }
-    ensures number { place_step_number result ≡ answer_number_at r.old.sheet.now r.old.at }
-    ensures values { place_step_values result ≡ answer_values_at r.old.sheet.now r.old.at }
     ensures moved { (r.new.sheet ≡ r.old.sheet) × (r.new.at ≡ next_answer r.old.sheet.now r.old.at) }
 {
     let step = answer_step(r.sheet, r.at);
@@ -159,8 +155,6 @@ pub fn next_place<'s, 'a>(r: &'s mut AnswerReader<'a>) -> AnswerStep
 // Reads one record of an exercise through a reader that stands at a number, and moves the number on.
 pub fn read_record(exercise: &[u8], at: &mut u16) -> ExerciseStep
     ensures given { result ≡ exercise_step_at exercise.now at.old }
-    ensures number { step_number result ≡ exercise_number_at exercise.now at.old }
-    ensures values { step_values result ≡ exercise_values_at exercise.now at.old }
     ensures moved { at.new ≡ next_exercise exercise.now at.old }
 {
     let mut r = ExerciseReader {
@@ -175,8 +169,6 @@ pub fn read_record(exercise: &[u8], at: &mut u16) -> ExerciseStep
 // Reads one place record of an answer the same way.
 pub fn read_place(answer: &[u8], at: &mut u16) -> AnswerStep
     ensures given { result ≡ answer_step_at answer.now at.old }
-    ensures number { place_step_number result ≡ answer_number_at answer.now at.old }
-    ensures values { place_step_values result ≡ answer_values_at answer.now at.old }
     ensures moved { at.new ≡ next_answer answer.now at.old }
 {
     let mut r = AnswerReader {

@@ -17,4 +17,3 @@ mod Placing
 mod Whole
 mod Bytes
 mod TriesCases
-pub mod Stated

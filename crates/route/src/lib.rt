@@ -1,7 +1,6 @@
 ghost use Rattle.std.specs.Prelude.{◌≡◌, true, false, ◌+◌, ◌≤◌, ◌<◌, get_or};
 ghost use Rattle.std.proofs.Math.Seq.{slice};
-ghost use Rattle.entries.specs.Table.{ENTRIES, need_at};
-ghost use Rattle.entries.specs.passes.Rows.{need_list};
+ghost use Rattle.entries.specs.Table.{ENTRIES, need_at, need_list};
 ghost use Rattle.route.specs.Way.{earliest_way};
 ghost use Rattle.route.specs.Tries.{tries};
 ghost use Rattle.route.specs.passes.Search.{search_from, tries_from, held_by, kind_of, fails_like};

@@ -9,7 +9,7 @@ use borrow.Author.Tests.{lt-ltb, le-ltb}
 use Rattle.sheet.specs.Lists.{anyb}
 use Rattle.sheet.specs.Bytes.{byte_at}
 use Rattle.sheet.proofs.Scan.{Unmet, unmet_starts, unmet_goes, unmet_stops, unmet_ends}
-use Rattle.entries.specs.passes.Rows.{no_row, eight_rows}
+use Rattle.entries.specs.Table.{no_row, eight_rows}
 use Rattle.settings.specs.Settings.{flags, row_of, table_of}
 
 -- ---- no byte before i has a flag above the five roles

@@ -1,5 +1,5 @@
 -- M-102, the settings sheet: "`LXT`, version 1 (16 bits), entry count 0 to 8 (a byte), and for each entry a byte of role flags (1 clk, 2 ena,
--- 4 aclr, 8 sclr, 16 sload). Version 2 also has a 16-bit board_number number after the count; a version 1 sheet stands for board_number 0." `s` is the
+-- 4 aclr, 8 sclr, 16 sload). Version 2 also has a 16-bit board number after the count; a version 1 sheet stands for board 0." `s` is the
 -- sheet. Assumes nothing.
 use Rattle.std.specs.Prelude.{ℕ, ◌+◌, ◌/◌, ◌%◌, Bool, cond, not, ◌||◌, List, [], ◌∷◌, map, length, replicate, eqb, ltb}
 use Rattle.sheet.specs.Lists.{anyb, below}
@@ -15,8 +15,8 @@ abbrev pub entry_count : List ℕ → ℕ
 entry_count s = byte_at s 5
 
 -- "Version 2 also has a 16-bit board number after the count; a version 1 sheet stands for board 0"
-abbrev pub board_number : List ℕ → ℕ
-board_number s = cond (eqb (version s) 2) (u16_at s 6) 0
+abbrev pub board : List ℕ → ℕ
+board s = cond (eqb (version s) 2) (u16_at s 6) 0
 
 -- how many bytes stand before the flags in a version
 abbrev pub head_of : ℕ → ℕ
@@ -72,8 +72,8 @@ table_of s = map row_of (flags s)
 -- ---- what a reader is told: zeros where the sheet is refused
 
 -- version, board number and entry count
-unfoldable pub settings_fields : List ℕ → List ℕ
-settings_fields s = cond (eqb (settings_number s) 0) (version s ∷ board_number s ∷ entry_count s ∷ []) (replicate 3 0)
+unfoldable pub settings_numbers : List ℕ → List ℕ
+settings_numbers s = cond (eqb (settings_number s) 0) (version s ∷ board s ∷ entry_count s ∷ []) (replicate 3 0)
 
 -- the flags of each entry, and 0 past the last
 unfoldable pub settings_entries : List ℕ → List ℕ

@@ -1,8 +1,7 @@
 ghost use Rattle.std.specs.Prelude.{◌≡◌, ltb};
 ghost use Rattle.sheet.specs.Bytes.{byte_at};
-ghost use Rattle.entries.specs.Table.{ENTRIES};
-ghost use Rattle.entries.specs.passes.Rows.{eight_rows};
-ghost use Rattle.settings.specs.Settings.{version, entry_count, board_number, flags_start, flags, unknown_version, wrong_settings_length, other_flags, settings_number, row_of, table_of, settings_fields, settings_entries};
+ghost use Rattle.entries.specs.Table.{ENTRIES, eight_rows};
+ghost use Rattle.settings.specs.Settings.{version, entry_count, board, flags_start, flags, unknown_version, wrong_settings_length, other_flags, settings_number, row_of, table_of, settings_numbers, settings_entries};
 ghost use Rattle.settings.specs.House.{house_settings};
 
 use entries::EntryTable;
@@ -41,8 +40,8 @@ fn entry_count(settings: &[u8]) -> u8
 }
 
 // The board's number, 0 in version 1.
-fn board_number(settings: &[u8]) -> u16
-    ensures { result ≡ board_number settings.now }
+fn board(settings: &[u8]) -> u16
+    ensures { result ≡ board settings.now }
 {
     if version(settings) == 2 {
         return sheet::u16_at(settings, BOARD_AT);
@@ -182,13 +181,13 @@ pub fn entry_table(settings: &[u8]) -> EntryTable
 
 // Version, board number and entry count of a settings sheet; zeros where it is refused.
 pub fn settings_numbers(settings: &[u8]) -> [u16; 3]
-    ensures { result ≡ settings_fields settings.now }
+    ensures { result ≡ settings_numbers settings.now }
 {
     if settings_number(settings) != 0 {
         return [0u16; 3];
     }
     let entries = entry_count(settings) as u16;
-    [version(settings), board_number(settings), entries]
+    [version(settings), board(settings), entries]
 }
 
 // The flags of each entry, and 0 past the last; zeros where the sheet is refused.

@@ -21,11 +21,11 @@ unfolding row_from
 row_length g i zero = refl
 row_length g i (suc n) = ap suc (row_length g (suc i) n)
 
-pub row_at : (g : ℕ → ℕ) (i n k : ℕ) → k < n → get_or (row_from g i n) k 0 ≡ g (i + k)
+pub row_at_lem : (g : ℕ → ℕ) (i n k : ℕ) → k < n → get_or (row_from g i n) k 0 ≡ g (i + k)
 unfolding row_from
-row_at g i zero k h = absurd (not-suc-le-zero h)
-row_at g i (suc n) zero h = ap g (omega arith)
-row_at g i (suc n) (suc k) h = row_at g (suc i) n k (le_of_suc-le-suc h) ∙ ap g (omega arith)
+row_at_lem g i zero k h = absurd (not-suc-le-zero h)
+row_at_lem g i (suc n) zero h = ap g (omega arith)
+row_at_lem g i (suc n) (suc k) h = row_at_lem g (suc i) n k (le_of_suc-le-suc h) ∙ ap g (omega arith)
 
 -- l was l₀, and only its first k elements were stored to: they are now g 0, g 1, ..
 pub record Written (g : ℕ → ℕ) (l₀ l : List ℕ) (k : ℕ) : Type 0 where
@@ -65,7 +65,7 @@ write_ends g l₀ l k w h =
     ext_get_or 0 l (row_from g 0 (length l₀)) (w.long ∙ sym (row_length g 0 (length l₀)))
     (λ i b.
     w.done i (omega arith)
-    ∙ sym (row_at g 0 (length l₀) i (omega arith) ∙ ap g (omega arith)))
+    ∙ sym (row_at_lem g 0 (length l₀) i (omega arith) ∙ ap g (omega arith)))
 
 -- the rule is a list's own elements: the list is copied
 pub copy_ends : (l₀ l m : List ℕ) (k : ℕ) → Written (λ j. get_or m j 0) l₀ l k → length l ≤ k → length m ≡ length l₀ → l ≡ m

@@ -11,9 +11,9 @@ use Rattle.sheet.proofs.Lists.{count_map}
 use Rattle.sheet.proofs.Order.{test_order, count_order}
 use Rattle.distinct.proofs.Order.{rising_brought}
 use Rattle.tablet_log.specs.declared.Entry.{Entry}
-use Rattle.tablet_log.specs.Log.{log_count, entry_at, entries, bad_entry, bad_at}
-use Rattle.tablet_log.specs.Minutes.{minutes_of, is_own, own_minutes, credit, apprentices, credit_row, credit_rows, covers_none, empty_below, listed_of}
-use Rattle.tablet_log.specs.Credited.{any_bad, too_many, credit_refusal, credited, credits_after}
+use Rattle.tablet_log.specs.Log.{entry_count, entry_at, entries, bad_entry, bad_at}
+use Rattle.tablet_log.specs.Minutes.{minutes_of, is_own, own_minutes, credit, apprentices, row_of, rows_of, covers_none, empty_below, listed_of}
+use Rattle.tablet_log.specs.Credited.{any_bad, too_many, refusal, credited, credits_after}
 use Rattle.tablet_log.specs.Alike.{Reordered}
 use Rattle.tablet_log.specs.Laws.{AnyOrder}
 use Rattle.tablet_log.proofs.Unread.{refusal_same}
@@ -43,11 +43,11 @@ module _ {es fs : List Entry} (d : Permᴰ es fs) where
   unfolding credit
   order_credit a = rw (← all_mine a es, ← all_mine a fs) (ap length (rising_brought (mine a) es fs d))
 
-  pub order_rows : credit_rows es ≡ credit_rows fs
-  unfolding credit_rows
+  pub order_rows : rows_of es ≡ rows_of fs
+  unfolding rows_of
   order_rows = rw order_apprentices (each (apprentices fs))
     where
-      each : (xs : List ℕ) → map (credit_row es) xs ≡ map (credit_row fs) xs
+      each : (xs : List ℕ) → map (row_of es) xs ≡ map (row_of fs) xs
       each [] = refl
       each (x ∷ xs) = rw (order_credit x, each xs)
 
@@ -58,14 +58,14 @@ any-map p f (x ∷ xs) = rw (any-map p f xs)
 
 pub bad_entries : (l : List ℕ) → any_bad l ≡ anyb bad_entry (entries l)
 unfolding any_bad bad_at entries
-bad_entries l = any-map bad_entry (entry_at l) (below (log_count l))
+bad_entries l = any-map bad_entry (entry_at l) (below (entry_count l))
 
 empty_entries : (l : List ℕ) → length (listed_of l) ≡ length (filterb covers_none (entries l))
 unfolding empty_below entries
-empty_entries l = sym (count_map (entry_at l) covers_none (below (log_count l)))
+empty_entries l = sym (count_map (entry_at l) covers_none (below (entry_count l)))
 
 module _ (k l : List ℕ) (h : Reordered k l) where
-  order_refusal : (rows numbers : ℕ) → credit_refusal k rows numbers ≡ credit_refusal l rows numbers
+  order_refusal : (rows numbers : ℕ) → refusal k rows numbers ≡ refusal l rows numbers
   unfolding too_many
   order_refusal =
       refusal_same k l h.long h.head (bad_entries k ∙ test_order bad_entry (entries k) (entries l) h.order ∙ sym (bad_entries l))

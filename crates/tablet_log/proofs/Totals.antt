@@ -17,7 +17,7 @@ use Rattle.distinct.proofs.Rising.{In, Above, in_above, rising_above, rising_in}
 use Rattle.distinct.proofs.More.{distinct_cons}
 use Rattle.tablet_log.specs.declared.Entry.{Entry}
 use Rattle.tablet_log.specs.Log.{entries}
-use Rattle.tablet_log.specs.Minutes.{minutes_of, is_own, own_minutes, credit, apprentices, credit_row, credit_rows}
+use Rattle.tablet_log.specs.Minutes.{minutes_of, is_own, own_minutes, credit, apprentices, row_of, rows_of}
 use Rattle.tablet_log.specs.Credited.{credited, credits_after}
 use Rattle.tablet_log.specs.Laws.{CreditsAddUp}
 use Rattle.tablet_log.specs.Pairs.{Pair, pair, pairs_of, all_pairs, same_pair, distinct_pairs, credits_of}
@@ -108,13 +108,13 @@ whose z (e ∷ es) m = ⊎_elim (λ q. inl q) (λ n. inr (whose z es n)) (from_p
     from_pairs (x ∷ ms) (inl q) = inl q
     from_pairs (x ∷ ms) (inr n) = from_pairs ms n
 
-rows_total : (es : List Entry) (xs : List ℕ) → credits_of (map (credit_row es) xs) ≡ total (credit es) xs
+rows_total : (es : List Entry) (xs : List ℕ) → credits_of (map (row_of es) xs) ≡ total (credit es) xs
 unfolding credits_of total
 rows_total es [] = refl
 rows_total es (x ∷ xs) = rw (rows_total es xs)
 
-entries_add_up : (es : List Entry) → credits_of (credit_rows es) ≡ distinct_pairs (all_pairs es)
-unfolding credit_rows apprentices credit
+entries_add_up : (es : List Entry) → credits_of (rows_of es) ≡ distinct_pairs (all_pairs es)
+unfolding rows_of apprentices credit
 entries_add_up es =
     let xs = map (λ (e : Entry). e.apprentice) es in
     rows_total es (rising xs)
@@ -123,7 +123,7 @@ entries_add_up es =
 
 -- the same of the rows at exit
 pub credits_add_up : CreditsAddUp
-unfolding credited credits_after credit_rows
+unfolding credited credits_after rows_of
 credits_add_up l rows numbers h =
     let es = entries l in
-    rw (h, ← length-map (apprentices es) (credit_row es)) (ap credits_of (take-append_seam (credit_rows es) _) ∙ entries_add_up es)
+    rw (h, ← length-map (apprentices es) (row_of es)) (ap credits_of (take-append_seam (rows_of es) _) ∙ entries_add_up es)

@@ -10,9 +10,9 @@ use Rattle.sheet.specs.Bytes.{byte_at}
 use Rattle.sheet.specs.Lists.{below}
 use Rattle.sheet.proofs.Lists.{any_same, filter_same}
 use Rattle.sheet.specs.Header.{wrong_mark, wrong_version}
-use Rattle.tablet_log.specs.Log.{log_count, entry_start, entry_at, entries, bad_entry, bad_at}
+use Rattle.tablet_log.specs.Log.{entry_count, entry_start, entry_at, entries, bad_entry, bad_at}
 use Rattle.tablet_log.specs.Minutes.{covers_none, empty_below, listed_of}
-use Rattle.tablet_log.specs.Credited.{log_over_limit, wrong_length, any_bad, too_many, credit_refusal, credited, credits_after, numbers_after}
+use Rattle.tablet_log.specs.Credited.{over_limit, wrong_length, any_bad, too_many, refusal, credited, credits_after, numbers_after}
 use Rattle.tablet_log.specs.Laws.{LoginsUnread}
 use Rattle.tablet_log.specs.Alike.{verdict_or_login, Alike}
 
@@ -40,11 +40,11 @@ middle_read i p g h =
 
 -- the number of the first broken check, by the header, 85 and 86
 module _ (k l : List ℕ) (long : length k ≡ length l) (head : (i : ℕ) → i < 7 → byte_at k i ≡ byte_at l i) where
-  pub count_same : log_count k ≡ log_count l
+  pub count_same : entry_count k ≡ entry_count l
   count_same = rw (head 5 (omega arith), head (5 + 1) (omega arith))
 
-  pub refusal_same : any_bad k ≡ any_bad l → too_many k ≡ too_many l → (rows numbers : ℕ) → credit_refusal k rows numbers ≡ credit_refusal l rows numbers
-  unfolding credit_refusal wrong_mark wrong_version log_over_limit wrong_length
+  pub refusal_same : any_bad k ≡ any_bad l → too_many k ≡ too_many l → (rows numbers : ℕ) → refusal k rows numbers ≡ refusal l rows numbers
+  unfolding refusal wrong_mark wrong_version over_limit wrong_length
   refusal_same bad many rows numbers =
       rw (long, head 0 (omega arith), head 1 (omega arith), head 2 (omega arith), head 3 (omega arith), head (3 + 1) (omega arith), count_same, bad, many)
 
@@ -69,26 +69,26 @@ module _ (k l : List ℕ) (h : Alike k l) where
         then (s + 8 + 1) (omega arith) (omega arith),
       )
 
-  same_count : log_count k ≡ log_count l
+  same_count : entry_count k ≡ entry_count l
   same_count = count_same k l h.long head
 
   same_entries : entries k ≡ entries l
   unfolding entries
-  same_entries = rw same_count (map_same (entry_at k) (entry_at l) (below (log_count l)) same_entry)
+  same_entries = rw same_count (map_same (entry_at k) (entry_at l) (below (entry_count l)) same_entry)
 
   same_listed : listed_of k ≡ listed_of l
   unfolding empty_below
-  same_listed = rw same_count (filter_same (λ i. covers_none (entry_at k i)) (λ i. covers_none (entry_at l i)) (λ i. ap covers_none (same_entry i)) (below (log_count l)))
+  same_listed = rw same_count (filter_same (λ i. covers_none (entry_at k i)) (λ i. covers_none (entry_at l i)) (λ i. ap covers_none (same_entry i)) (below (entry_count l)))
 
   same_bad : any_bad k ≡ any_bad l
   unfolding any_bad bad_at
-  same_bad = rw same_count (any_same (bad_at k) (bad_at l) (λ i. ap bad_entry (same_entry i)) (below (log_count l)))
+  same_bad = rw same_count (any_same (bad_at k) (bad_at l) (λ i. ap bad_entry (same_entry i)) (below (entry_count l)))
 
   same_many : too_many k ≡ too_many l
   unfolding too_many
   same_many = rw same_entries
 
-  same_refusal : (rows numbers : ℕ) → credit_refusal k rows numbers ≡ credit_refusal l rows numbers
+  same_refusal : (rows numbers : ℕ) → refusal k rows numbers ≡ refusal l rows numbers
   same_refusal = refusal_same k l h.long head same_bad same_many
 
   same_told : (rows numbers : ℕ) → credited k rows numbers ≡ credited l rows numbers

@@ -17,7 +17,7 @@ use Rattle.distinct.proofs.Nets.{from_above, in_from}
 use Rattle.tablet_log.specs.declared.Entry.{Entry}
 use Rattle.tablet_log.specs.Log.{entries, bad_entry}
 use Rattle.tablet_log.specs.Minutes.{minutes_of, is_own, own_minutes, credit}
-use Rattle.tablet_log.specs.Credited.{credit_refusal, credit_checks}
+use Rattle.tablet_log.specs.Credited.{refusal, credit_checks}
 use Rattle.tablet_log.specs.Laws.{AtMostAWeek}
 use Rattle.tablet_log.proofs.Order.{bad_entries}
 
@@ -32,7 +32,7 @@ in_week (e ∷ es) a z h m =
     (λ t. in_week es a z b.1 (rw t at m))
 
 pub at_most_a_week : AtMostAWeek
-unfolding credit_refusal credit
+unfolding refusal credit
 at_most_a_week l rows numbers h a =
     let good = (all_held (credit_checks l rows numbers) refl h).1.1.1.1.1.1.0 in
     distinct_below 10080 (own_minutes (entries l) a) (λ z m. in_week (entries l) a z (rw (bad_entries l) at good) m)

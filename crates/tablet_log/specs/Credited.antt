@@ -5,19 +5,19 @@ use Rattle.sheet.specs.Lists.{anyb, below}
 use Rattle.sheet.specs.Header.{wrong_mark, wrong_version}
 use Rattle.sheet.specs.Checks.{Check, check, first_number}
 use Rattle.tablet_log.specs.declared.Credited.{Credited}
-use Rattle.tablet_log.specs.Log.{log_count, entry_start, entries, bad_at}
-use Rattle.tablet_log.specs.Minutes.{apprentices, credit_rows, listed_of}
+use Rattle.tablet_log.specs.Log.{entry_count, entry_start, entries, bad_at}
+use Rattle.tablet_log.specs.Minutes.{apprentices, rows_of, listed_of}
 
 -- "count (.. at most 1,024)"
-unfoldable pub log_over_limit : List ℕ → Bool
-log_over_limit l = ltb 1024 (log_count l)
+unfoldable pub over_limit : List ℕ → Bool
+over_limit l = ltb 1024 (entry_count l)
 
 unfoldable pub wrong_length : List ℕ → Bool
-wrong_length l = not (eqb (length l) (entry_start (log_count l)))
+wrong_length l = not (eqb (length l) (entry_start (entry_count l)))
 
 -- 85: "in any entry"
 unfoldable pub any_bad : List ℕ → Bool
-any_bad l = anyb (bad_at l) (below (log_count l))
+any_bad l = anyb (bad_at l) (below (entry_count l))
 
 -- 86: "a 65th apprentice"
 unfoldable pub too_many : List ℕ → Bool
@@ -29,7 +29,7 @@ log_checks l =
     check 80 (ltb (length l) 7)
     ∷ check 81 (wrong_mark 76 l)
     ∷ check 82 (wrong_version l)
-    ∷ check 83 (log_over_limit l)
+    ∷ check 83 (over_limit l)
     ∷ check 84 (wrong_length l)
     ∷ check 85 (any_bad l)
     ∷ []
@@ -43,13 +43,13 @@ abbrev pub credit_checks : List ℕ → ℕ → ℕ → List Check
 credit_checks l rows numbers = check 87 (not (eqb rows 64) || not (eqb numbers 1024)) ∷ (log_checks l ++ (check 86 (too_many l) ∷ []))
 
 -- the number of 80 to 87 that applies, or 0
-unfoldable pub credit_refusal : List ℕ → ℕ → ℕ → ℕ
-credit_refusal l rows numbers = first_number (credit_checks l rows numbers)
+unfoldable pub refusal : List ℕ → ℕ → ℕ → ℕ
+refusal l rows numbers = first_number (credit_checks l rows numbers)
 
 -- what holds without a refusal, and what holds with one
 module _ {A : Type 0} where
   abbrev pub unless_refused : List ℕ → ℕ → ℕ → A → A → A
-  unless_refused l rows numbers x y = cond (eqb (credit_refusal l rows numbers) 0) x y
+  unless_refused l rows numbers x y = cond (eqb (refusal l rows numbers) 0) x y
 
   -- a lent list whose first places are filled with these: "the rest stay"
   abbrev pub filled_with : List A → List A → List A
@@ -59,14 +59,14 @@ module _ {A : Type 0} where
 unfoldable pub credited : List ℕ → ℕ → ℕ → Credited
 credited l rows numbers =
     record {
-      number = credit_refusal l rows numbers;
+      number = refusal l rows numbers;
       rows = unless_refused l rows numbers (length (apprentices (entries l))) 0;
       entries = unless_refused l rows numbers (length (listed_of l)) 0;
     }
 
 -- THE LENT ROWS AT EXIT; after a refusal "nothing is credited then and lent memory is unchanged"
 unfoldable pub credits_after : List ℕ → List (List ℕ) → List ℕ → List (List ℕ)
-credits_after l rows numbers = unless_refused l (length rows) (length numbers) (filled_with (credit_rows (entries l)) rows) rows
+credits_after l rows numbers = unless_refused l (length rows) (length numbers) (filled_with (rows_of (entries l)) rows) rows
 
 -- THE LENT ENTRY NUMBERS AT EXIT
 unfoldable pub numbers_after : List ℕ → List (List ℕ) → List ℕ → List ℕ

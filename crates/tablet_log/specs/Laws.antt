@@ -2,14 +2,14 @@
 use Rattle.std.specs.Prelude.{ℕ, ◌≤◌, ◌≡◌, List, length, take}
 use Rattle.tablet_log.specs.Log.{entries}
 use Rattle.tablet_log.specs.Minutes.{credit}
-use Rattle.tablet_log.specs.Credited.{credit_refusal, credited, credits_after, numbers_after}
+use Rattle.tablet_log.specs.Credited.{refusal, credited, credits_after, numbers_after}
 use Rattle.tablet_log.specs.Pairs.{all_pairs, distinct_pairs, credits_of}
 use Rattle.tablet_log.specs.Alike.{Alike, Reordered}
 
 -- "The credits add up to the number of distinct (apprentice, minute) pairs in the log": those of the rows that the call says are filled
 abbrev pub CreditsAddUp : Type 0
 CreditsAddUp =
-    (l : List ℕ) (rows : List (List ℕ)) (numbers : List ℕ) → credit_refusal l (length rows) (length numbers) ≡ 0
+    (l : List ℕ) (rows : List (List ℕ)) (numbers : List ℕ) → refusal l (length rows) (length numbers) ≡ 0
     → credits_of (take (credited l (length rows) (length numbers)).rows (credits_after l rows numbers)) ≡ distinct_pairs (all_pairs (entries l))
 
 -- changing only logins or verdicts changes nothing
@@ -26,4 +26,4 @@ AnyOrder =
 
 -- nobody has more minutes than a week has
 abbrev pub AtMostAWeek : Type 0
-AtMostAWeek = (l : List ℕ) (rows numbers : ℕ) → credit_refusal l rows numbers ≡ 0 → (a : ℕ) → credit (entries l) a ≤ 10080
+AtMostAWeek = (l : List ℕ) (rows numbers : ℕ) → refusal l rows numbers ≡ 0 → (a : ℕ) → credit (entries l) a ≤ 10080

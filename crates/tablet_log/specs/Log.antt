@@ -5,8 +5,8 @@ use Rattle.sheet.specs.Bytes.{u16_at, u32_at}
 use Rattle.sheet.specs.Lists.{below}
 use Rattle.tablet_log.specs.declared.Entry.{Entry}
 
-abbrev pub log_count : List ℕ → ℕ
-log_count l = u16_at l 5
+abbrev pub entry_count : List ℕ → ℕ
+entry_count l = u16_at l 5
 
 -- where entry i begins, and where the log ends after i entries
 abbrev pub entry_start : ℕ → ℕ
@@ -22,7 +22,7 @@ entry_at l i = record {
 
 -- the entries, in order
 unfoldable pub entries : List ℕ → List Entry
-entries l = map (entry_at l) (below (log_count l))
+entries l = map (entry_at l) (below (entry_count l))
 
 -- 85: "minute above 10,080 or apprentice 0"
 unfoldable pub bad_entry : Entry → Bool

@@ -3,7 +3,7 @@ use Rattle.std.specs.Prelude.{ℕ, ◌-◌, Bool, List, [], ◌∷◌, map, eqb,
 use Rattle.sheet.specs.Lists.{concat_map, filterb, from, below}
 use Rattle.distinct.specs.Rising.{rising, distinct}
 use Rattle.tablet_log.specs.declared.Entry.{Entry}
-use Rattle.tablet_log.specs.Log.{log_count, entry_at}
+use Rattle.tablet_log.specs.Log.{entry_count, entry_at}
 
 -- the minutes that an entry covers: from its opening to its closing, "closing not included". None where it closes at or before its opening
 abbrev pub minutes_of : Entry → List ℕ
@@ -26,11 +26,11 @@ unfoldable pub apprentices : List Entry → List ℕ
 apprentices es = rising (map (λ e. e.apprentice) es)
 
 -- an apprentice's row: the apprentice, the minutes
-abbrev pub credit_row : List Entry → ℕ → List ℕ
-credit_row es a = a ∷ credit es a ∷ []
+abbrev pub row_of : List Entry → ℕ → List ℕ
+row_of es a = a ∷ credit es a ∷ []
 
-unfoldable pub credit_rows : List Entry → List (List ℕ)
-credit_rows es = map (credit_row es) (apprentices es)
+unfoldable pub rows_of : List Entry → List (List ℕ)
+rows_of es = map (row_of es) (apprentices es)
 
 -- "An entry that closes at or before its opening covers none"
 abbrev pub covers_none : Entry → Bool
@@ -41,4 +41,4 @@ unfoldable pub empty_below : List ℕ → ℕ → List ℕ
 empty_below l n = filterb (λ i. covers_none (entry_at l i)) (below n)
 
 abbrev pub listed_of : List ℕ → List ℕ
-listed_of l = empty_below l (log_count l)
+listed_of l = empty_below l (entry_count l)

@@ -1,8 +1,8 @@
 ghost use Rattle.std.specs.Prelude.{◌≡◌, cond, ◌+◌, ◌<◌, length, set};
 ghost use Rattle.std.proofs.lemmas.List.Edits.{sets};
-ghost use Rattle.tablet_log.specs.Log.{log_count, entry_at, bad_entry, bad_at};
+ghost use Rattle.tablet_log.specs.Log.{entry_count, entry_at, bad_entry, bad_at};
 ghost use Rattle.tablet_log.specs.Minutes.{empty_below, covers_none};
-ghost use Rattle.tablet_log.specs.Credited.{log_over_limit, wrong_length, any_bad, log_number};
+ghost use Rattle.tablet_log.specs.Credited.{over_limit, wrong_length, any_bad, log_number};
 
 // The limits of a log, and how many rows and entry numbers are lent.
 pub const MAX_ENTRIES: u16 = 1024;
@@ -51,7 +51,7 @@ pub struct Credited {
 
 // How many entries the head says.
 pub fn entry_count(log: &[u8]) -> u16
-    ensures { result ≡ log_count log.now }
+    ensures { result ≡ entry_count log.now }
 {
     sheet::u16_at(log, ENTRIES_AT)
 }
@@ -102,7 +102,7 @@ fn any_bad(log: &[u8]) -> bool
 
 // 83: more than 1,024 entries.
 fn over_limit(log: &[u8]) -> bool
-    ensures { result ≡ log_over_limit log.now }
+    ensures { result ≡ over_limit log.now }
 {
     MAX_ENTRIES < entry_count(log)
 }

@@ -15,7 +15,7 @@ use Rattle.sheet.proofs.Checks.{none_broken, all_held}
 use Rattle.sheet.proofs.Laws.{by_test, or_parts}
 use Rattle.sheet.proofs.Again.{two_again, mark_again}
 use Rattle.entries.specs.Table.{ENTRIES}
-use Rattle.settings.specs.Settings.{version, entry_count, board_number, head_of, flags_start, flags}
+use Rattle.settings.specs.Settings.{version, entry_count, board, head_of, flags_start, flags}
 use Rattle.settings.specs.Settings.{unknown_version, wrong_settings_length, other_flags, settings_checks, settings_number}
 use Rattle.settings.proofs.Laws.{Passed, passed, flags_length}
 use Rattle.writer.specs.Boards.{Board, settings_head, settings_sheet, board_of}
@@ -49,7 +49,7 @@ module _ (x : Board) where
   unfolding settings_sheet settings_head wrong_mark
   marked = refl
 
-  number_back : wrong_board x.version x.number ≡ false → board_number s ≡ x.number
+  number_back : wrong_board x.version x.number ≡ false → board s ≡ x.number
   unfolding settings_sheet settings_head
   number_back h =
       by_test (eqb x.version 2)
@@ -75,7 +75,7 @@ module _ (x : Board) where
 
 -- ---- the second law
 module _ (s : List ℕ) (b : AllBytes s) (p : Passed s) where
-  head_again : settings_head (version s) (board_number s) (entry_count s) ≡ take (flags_start s) s
+  head_again : settings_head (version s) (board s) (entry_count s) ≡ take (flags_start s) s
   unfolding settings_head
   head_again =
       by_test (eqb (version s) 2)
@@ -90,11 +90,11 @@ module _ (s : List ℕ) (b : AllBytes s) (p : Passed s) where
       rw (flags_length s p, head_again)
       (sym (take-add (flags_start s) (entry_count s) s) ∙ take_all (flags_start s + entry_count s) s (omega arith))
 
-  right_again : wrong_board (version s) (board_number s) ≡ false
+  right_again : wrong_board (version s) (board s) ≡ false
   unfolding wrong_board
   right_again =
       by_test (eqb (version s) 1)
-      (λ t. let zero : board_number s ≡ 0 = rw (eqb-true (version s) 1 t) in rw (p.known, zero, t))
+      (λ t. let zero : board s ≡ 0 = rw (eqb-true (version s) 1 t) in rw (p.known, zero, t))
       (λ t. rw (p.known, t))
 
   settings_again : (room : ℕ) → length s ≤ room → (settings_sheet (board_of s) ≡ s) × (settings_refusal (board_of s) room ≡ 0)

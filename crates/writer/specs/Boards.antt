@@ -16,7 +16,7 @@ pub record Board : Type 0 where
 abbrev pub board : ℕ → ℕ → List ℕ → Board
 board version number entries = record { version = version; number = number; entries = entries }
 
--- "`LXT`, version 1 (16 bits), entry count 0 to 8 (a byte)"; "Version 2 also has a 16-bit board number after the count"
+-- "`LXT`, version (16 bits), entry count (a byte)"; "Version 2 also has a 16-bit board number after the count"
 unfoldable pub settings_head : ℕ → ℕ → ℕ → List ℕ
 settings_head version number total = (76 ∷ 88 ∷ 84 ∷ []) ++ u16_bytes version ++ total ∷ cond (eqb version 2) (u16_bytes number) []
 
@@ -43,7 +43,7 @@ settings_refusal x room = first_number (settings_writer_checks x room)
 
 -- what a sheet says, by the definitions of the judge and the reader
 unfoldable pub board_of : List ℕ → Board
-board_of s = board (sheet.version s) (sheet.board_number s) (flags s)
+board_of s = board (sheet.version s) (sheet.board s) (flags s)
 
 -- "with 70 to 75"
 unfoldable pub SettingsPass : List ℕ → Type 0

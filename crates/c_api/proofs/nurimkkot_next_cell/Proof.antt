@@ -12,4 +12,4 @@ nurimkkot_next_cell_spec =
     (λ c κs. search rules)  -- read-record-requires
     (λ c κs. search rules)  -- cell-fields-requires
     (λ c κs. search rules)  -- cell-told-requires
-    (λ c. let s = c.before.before.read-record.ensures in (c.cell-told.ensures ∙ ap cell_told s.0, (c.before.cell-fields.ensures ∙ ap cell_fields s.0, s.1.1.1))))  -- returns
+    (λ c. let s = c.before.before.read-record.ensures in (c.cell-told.ensures ∙ ap cell_told s.0, (c.before.cell-fields.ensures ∙ ap cell_fields s.0, s.1))))  -- returns

@@ -12,4 +12,4 @@ nurimkkot_next_place_spec =
     (λ c κs. search rules)  -- read-place-requires
     (λ c κs. search rules)  -- place-fields-requires
     (λ c κs. search rules)  -- place-told-requires
-    (λ c. let s = c.before.before.read-place.ensures in (c.place_told_lem.ensures ∙ ap place_told s.0, (c.before.place-fields.ensures ∙ ap place_fields s.0, s.1.1.1))))  -- returns
+    (λ c. let s = c.before.before.read-place.ensures in (c.place_told_lem.ensures ∙ ap place_told s.0, (c.before.place-fields.ensures ∙ ap place_fields s.0, s.1))))  -- returns

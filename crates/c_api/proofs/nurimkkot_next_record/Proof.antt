@@ -15,4 +15,4 @@ nurimkkot_next_record_spec =
     (λ c κs. search rules)  -- packed-cell-requires
     (λ c κs. search rules)  -- cell-told-requires
     (λ c. let s = c.before.before.read-record.ensures in
-    (c.cell-told.ensures ∙ ap cell_told s.0, (c.before.packed-cell.ensures ∙ ap (λ (e : ExerciseStep). packed (cell_fields e)) s.0, s.1.1.1))))  -- returns
+    (c.cell-told.ensures ∙ ap cell_told s.0, (c.before.packed-cell.ensures ∙ ap (λ (e : ExerciseStep). packed (cell_fields e)) s.0, s.1))))  -- returns

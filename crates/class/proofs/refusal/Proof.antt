@@ -1,12 +1,12 @@
 -- Each test that failed is passed over in the list of checks, and the one that held is the first broken.
 use Rattle.sheet.proofs.Laws.{tested}
-use Rattle.class.specs.Class.{class_refusal}
+use Rattle.class.specs.Class.{refusal}
 use borrow.Author.Rules.{rules}
 use Rattle.class.proofs.refusal.Statement.{statement}
 use Rattle.class.proofs.refusal.Tie as tie
 
 pub refusal_spec : {M : Type 1} → statement M
-unfolding class_refusal
+unfolding refusal
 refusal_spec =
     tie.close
     (tie.spec

@@ -1,7 +1,7 @@
 -- What a record says that is known to keep the layout: nothing but its kind is tested. Assumes nothing.
-use Rattle.std.specs.Prelude.{ℕ, cond, not, List, [], length, eqb}
+use Rattle.std.specs.Prelude.{ℕ, cond, not, List, length, eqb}
 use Rattle.exercise.specs.Exercise.{record_part}
-use Rattle.exercise.specs.Record.{kind_of, combinational_of, register_of, combinational_values, register_values}
+use Rattle.exercise.specs.Record.{kind_of, combinational_of, register_of}
 use Rattle.exercise.specs.declared.Record.{Record}
 use Rattle.exercise.specs.declared.Record.TheVariants.{Combinational, Register, Malformed}
 
@@ -13,13 +13,3 @@ known_of p =
 
 unfoldable pub known_at : List ℕ → ℕ → Record
 known_at e i = known_of (record_part e i)
-
--- document 01's number and values of what is so read: 15 where the part is not 24 bytes long, else 0 and the values of the cell of its kind
-unfoldable pub known_number : List ℕ → ℕ → ℕ
-known_number e i = cond (not (eqb (length (record_part e i)) 24)) 15 0
-
-unfoldable pub known_values : List ℕ → ℕ → List ℕ
-known_values e i =
-    let p = record_part e i in
-    cond (not (eqb (length p) 24)) []
-    (cond (eqb (kind_of p) 1) (combinational_values (combinational_of p)) (register_values (register_of p)))

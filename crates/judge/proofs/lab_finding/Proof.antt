@@ -1,6 +1,6 @@
 -- The lists by LAB give each LAB its cells; the pass over the LABs says which is the lowest that is broken.
 use native.Mathlib.Omega.{arith}
-use Rattle.judge.proofs.Preparing.{labs_stop, labs_end, rows_of, tries_of_lem}
+use Rattle.judge.proofs.Preparing.{labs_stop, labs_end, rows_of_lem, tries_of_lem}
 use borrow.Author.Rules.{rules}
 use Rattle.judge.proofs.lab_finding.Statement.{statement}
 use Rattle.judge.proofs.lab_finding.Tie as tie
@@ -15,7 +15,7 @@ returns c =
       labs_stop s.args.table s.args.exercise.now s.args.answer.now _ _ _ n.cell-count.ensures k.link-cells.ensures.0 k.link-cells.ensures.1
           _ found.0 (omega (arith, c.if1.true)),
       (
-        rows_of s.args.table s.args.exercise.now s.args.answer.now _ _ _ n.cell-count.ensures k.link-cells.ensures.0 k.link-cells.ensures.1
+        rows_of_lem s.args.table s.args.exercise.now s.args.answer.now _ _ _ n.cell-count.ensures k.link-cells.ensures.0 k.link-cells.ensures.1
             _ found.0 s.args.rows.now _ found.1.0,
         tries_of_lem s.args.table s.args.exercise.now s.args.answer.now _ _ _ n.cell-count.ensures k.link-cells.ensures.0 k.link-cells.ensures.1
             _ found.0 s.args.tries.now _ found.1.1,
@@ -32,7 +32,7 @@ returns-2 c =
       labs_end s.args.table s.args.exercise.now s.args.answer.now _ _ _ n.cell-count.ensures k.link-cells.ensures.0 k.link-cells.ensures.1
           _ found.0 (omega (arith, c.before.if1.false)) c.plain.ensures,
       (
-        rows_of s.args.table s.args.exercise.now s.args.answer.now _ _ _ n.cell-count.ensures k.link-cells.ensures.0 k.link-cells.ensures.1
+        rows_of_lem s.args.table s.args.exercise.now s.args.answer.now _ _ _ n.cell-count.ensures k.link-cells.ensures.0 k.link-cells.ensures.1
             _ found.0 s.args.rows.now _ found.1.0,
         tries_of_lem s.args.table s.args.exercise.now s.args.answer.now _ _ _ n.cell-count.ensures k.link-cells.ensures.0 k.link-cells.ensures.1
             _ found.0 s.args.tries.now _ found.1.1,

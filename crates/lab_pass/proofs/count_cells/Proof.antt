@@ -33,7 +33,7 @@ loop-again c =
     let i = r.before in
     let l = i.before.before in (
       take_goes _ _ 512 _ _ _ _ _ _ _ l.loop.k l.loop.invariant.0 _ _ _ _ (omega (arith, i.before.loop-test.true)) i.if1.false
-          r.known-record-at.ensures.0 (no_register _ _ c.match.keys2) m.mark-if.ensures e.entry.ensures,
+          r.known-record-at.ensures (no_register _ _ c.match.keys2) m.mark-if.ensures e.entry.ensures,
       omega arith,
       m.mark-if.auto.1.0 ∙ l.loop.invariant.2,
     )
@@ -46,7 +46,7 @@ loop-again-2 c =
     let i = r.before in
     let l = i.before.before in (
       take_goes _ _ 512 _ _ _ _ _ _ _ l.loop.k l.loop.invariant.0 _ _ _ _ (omega (arith, i.before.loop-test.true)) i.if1.false
-          r.known-record-at.ensures.0 c.with.ensures m.mark-if.ensures e.entry.ensures,
+          r.known-record-at.ensures c.with.ensures m.mark-if.ensures e.entry.ensures,
       omega arith,
       m.mark-if.auto.1.0 ∙ l.loop.invariant.2,
     )

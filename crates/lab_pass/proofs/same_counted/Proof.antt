@@ -10,4 +10,4 @@ same_counted_spec =
     tie.close
     (tie.spec
     (λ c κs. search rules)  -- same-counts-requires
-    (λ c. cc))  -- returns
+    (λ c. rw c.same_counts_lem.ensures))  -- returns

@@ -13,8 +13,7 @@ use Rattle.distinct.specs.declared.UpToTwo.{UpToTwo}
 use Rattle.entries.specs.declared.Need.{Need}
 use Rattle.route.specs.declared.LabRoute.{LabRoute}
 use Rattle.entries.specs.declared.Needs.{Needs}
-use Rattle.entries.specs.Table.{Table, CLK, ENA, ACLR, SCLR, SLOAD}
-use Rattle.entries.specs.passes.Rows.{with_need}
+use Rattle.entries.specs.Table.{with_need, Table, CLK, ENA, ACLR, SCLR, SLOAD}
 use Rattle.route.specs.Way.{earliest_way}
 use Rattle.route.specs.Route.{lab_route_of}
 use Rattle.route.specs.Tries.{tries}

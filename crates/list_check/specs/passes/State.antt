@@ -3,7 +3,7 @@ use Rattle.std.specs.Prelude.{true, cond, not, ◌&&◌, ℕ, List, [], ◌∷�
 use Rattle.exercise.specs.Record.{Cell}
 use Rattle.distinct.specs.declared.LabMarks.{LabMarks}
 use Rattle.distinct.specs.passes.Marks.{marking, mark_all}
-use Rattle.entries.specs.passes.Rows.{eight_rows}
+use Rattle.entries.specs.Table.{eight_rows}
 use Rattle.settings.specs.Settings.{settings_number, table_of}
 use Rattle.lab_rules.specs.declared.LabResult.{LabResult}
 use Rattle.lab_nets.specs.passes.Uses.{uses_of}

@@ -9,10 +9,10 @@ returns c =
     let w = c.before.before in
     let r = w.before in
     let b = r.before.before.before in
-    line_marked _ _ _ b.byte_at_lem.ensures r.before.before.if1.true r.row.ensures w.lab-line.ensures
+    line_marked _ _ _ b.byte_at.ensures r.before.before.if1.true r.row.ensures w.lab-line.ensures
 
 returns-2 : tie.Need-returns-2
-returns-2 c = no_line _ _ 127 _ c.before.byte_at_lem.ensures c.if1.false
+returns-2 c = no_line _ _ 127 _ c.before.byte_at.ensures c.if1.false
 
 pub line_at_spec : {M : Type 1} → statement M
 line_at_spec =

@@ -1,5 +1,4 @@
--- The number of a cell among 30 to 44, and the same answered from the tables by net. `e` is the exercise; `cell` gives what each cell's record says.
--- Assumes nothing.
+-- 30 to 44 of a cell, answered from the tables by net. `cell` gives what each cell's record says. Assumes nothing.
 use Rattle.std.specs.Prelude.{ℕ, Bool, not, ◌&&◌, List, [], ◌∷◌, get_or, eqb}
 use Rattle.sheet.specs.Checks.{NONE, check, first_number}
 use Rattle.sheet.specs.Signal.{connected, is_net, net_of, is_inverted}
@@ -7,13 +6,8 @@ use Rattle.exercise.specs.declared.CombinationalCell.{CombinationalCell}
 use Rattle.exercise.specs.declared.Record.{Record}
 use Rattle.exercise.specs.declared.Record.TheVariants.{Combinational, Register, Malformed}
 use Rattle.tables.specs.passes.Tables.{cell_for}
-use Rattle.netlist.specs.Cells.{cell_checks, register_checks, carry_in_without_flag, carry_with_datad, carry_in_with_datac}
+use Rattle.netlist.specs.Cells.{register_checks, carry_in_without_flag, carry_with_datad, carry_in_with_datac}
 
--- the lowest of 30 to 44 that cell i breaks, or 0
-unfoldable pub cell_number : List ℕ → ℕ → ℕ
-cell_number e i = first_number (cell_checks e i)
-
--- ---- from the tables
 -- the cell in a table is one other than i
 abbrev pub is_other : ℕ → ℕ → Bool
 is_other i j = not (eqb j NONE) && not (eqb j i)

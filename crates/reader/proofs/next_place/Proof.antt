@@ -4,7 +4,7 @@ use contract.Running.{tables, tables_of}
 use denote.Triple.Spec.{triple_of}
 use denote.Triple.Table.{entered, cited}
 use denote.Builtin.{u16}
-use Rattle.reader.proofs.Kind.{answer, says_four, sheet_spec, step_ens, after_ens}
+use Rattle.reader.proofs.Kind.{answer, says_both, sheet_spec, step_ens, after_ens}
 use Rattle.reader.proofs.NextWalk.{next_meets}
 use Rattle.reader.proofs.answer_step.Symbol as step-def
 use Rattle.reader.proofs.answer_step.Symbol.{name as #reader·answer-step}
@@ -23,7 +23,7 @@ next_place_spec 𝓤 𝓛 𝓜 𝓡 =
     entered 𝓤 𝓛.H (triple_of 𝓛 next_place.signature (next_place.spec 𝓛 𝓜.mem 𝓡.run))
     (tables 𝓤 𝓛.H 𝓜 𝓡 code.env).C (tables 𝓤 𝓛.H 𝓜 𝓡 code.env).Λ #reader·next-place code.function (code.unfolded 𝓤 𝓛.H 𝓜 𝓡)
     (next_meets 𝓛 answer (λ κs a r e. (next_place.clauses 𝓛 𝓜.mem 𝓡.run κs a).ensures tt r e)
-    (λ κs a r n says moved. says_four 𝓤 _ _ _ _ (λ i. says.0 i, (λ i. says.1.0 i, (λ i. says.1.1 i, (refl, λ i. moved i)))))
+    (λ κs a r n given moved. says_both 𝓤 _ _ (λ i. given i, (refl, λ i. moved i)))
     #reader·answer-step #reader·answer-next (tables_of 𝓤 𝓛.H 𝓜 (tables 𝓤 𝓛.H 𝓜 𝓡 code.env))
     (cited 𝓤 𝓛.H (sheet_spec answer.Step 𝓛 (step_ens 𝓤 answer)) 𝓜 𝓡 code.env #reader·answer-step step-def.routine code.calls-reader::answer-step (step_thm.met 𝓤 𝓛 𝓜 𝓡))
     (cited 𝓤 𝓛.H (sheet_spec u16 𝓛 (after_ens 𝓤 answer)) 𝓜 𝓡 code.env #reader·answer-next next-def.routine code.calls-reader::answer-next (next-thm.met 𝓤 𝓛 𝓜 𝓡)))

@@ -2,7 +2,7 @@
 -- Assumes nothing.
 use mathlib.Core.Path.{sym}
 use borrow.Author.Rules.{rules}
-use Rattle.entries.specs.passes.Rows.{need_list}
+use Rattle.entries.specs.Table.{need_list}
 use Rattle.route.specs.Way.{earliest_way}
 use Rattle.route.proofs.Bytes.{lab_no_needs, lab_way, lab_no_way}
 use Rattle.route.proofs.Tries.{no_tries}

@@ -20,5 +20,5 @@ entry_table_spec =
     (λ c κs. search rules)  -- row-at-requires-8
     (λ c.
     let f = c.before.before.before.before.before.before.before.before in
-    rw (c.before.before.before.before.before.before.before.row_at.ensures, c.before.before.before.before.before.before.row-at2.ensures, c.before.before.before.before.before.row-at3.ensures, c.before.before.before.before.row-at4.ensures, c.before.before.before.row-at5.ensures, c.before.before.row-at6.ensures, c.before.row-at7.ensures, c.row-at8.ensures, f.flags.ensures)
+    rw (c.before.before.before.before.before.before.before.row_at_lem.ensures, c.before.before.before.before.before.before.row-at2.ensures, c.before.before.before.before.before.row-at3.ensures, c.before.before.before.before.row-at4.ensures, c.before.before.before.row-at5.ensures, c.before.before.row-at6.ensures, c.before.row-at7.ensures, c.row-at8.ensures, f.flags.ensures)
     (eight_rows_lem f.before.before.args.settings.now)))  -- returns

@@ -11,4 +11,4 @@ row_at_spec =
     (tie.spec
     (λ c κs. search rules)  -- byte-at-requires
     (λ c κs. search rules)  -- row-requires
-    (λ c. c.row.ensures ∙ ap row_of c.before.byte_at_lem.ensures))  -- returns
+    (λ c. c.row.ensures ∙ ap row_of c.before.byte_at.ensures))  -- returns

@@ -23,4 +23,4 @@ settings_entries_spec =
     (λ c κs. search rules)  -- byte-at-requires-8
     (λ c.
     stops _ _ _ (eq_by _ _ 0 c.before.before.before.before.before.before.before.before.before.before.settings-number.ensures c.before.before.before.before.before.before.before.before.before.if1.false)
-    (rw (c.before.before.before.before.before.before.before.byte_at_lem.ensures, c.before.before.before.before.before.before.byte-at2.ensures, c.before.before.before.before.before.byte-at3.ensures, c.before.before.before.before.byte-at4.ensures, c.before.before.before.byte-at5.ensures, c.before.before.byte-at6.ensures, c.before.byte-at7.ensures, c.byte-at8.ensures, c.before.before.before.before.before.before.before.before.flags.ensures))))  -- returns-2
+    (rw (c.before.before.before.before.before.before.before.byte_at.ensures, c.before.before.before.before.before.before.byte-at2.ensures, c.before.before.before.before.before.byte-at3.ensures, c.before.before.before.before.byte-at4.ensures, c.before.before.before.byte-at5.ensures, c.before.before.byte-at6.ensures, c.before.byte-at7.ensures, c.byte-at8.ensures, c.before.before.before.before.before.before.before.before.flags.ensures))))  -- returns-2

@@ -41,9 +41,9 @@ fill_tables_spec =
     let r = f.before.before in
     let l = r.before.before.loop in (
       search rules,
-      rw (add-one, ← l.invariant.1, ← r.known-record-at.ensures.0) f.note-reads.ensures,
-      rw (add-one, ← l.invariant.2, ← r.known-record-at.ensures.0) d.note-carry.ensures.0,
-      rw (add-one, ← l.invariant.3, ← r.known-record-at.ensures.0) d.note-carry.ensures.1,
+      rw (add-one, ← l.invariant.1, ← r.known-record-at.ensures) f.note-reads.ensures,
+      rw (add-one, ← l.invariant.2, ← r.known-record-at.ensures) d.note-carry.ensures.0,
+      rw (add-one, ← l.invariant.3, ← r.known-record-at.ensures) d.note-carry.ensures.1,
       f.note-reads.auto.0 ∙ l.invariant.4,
       d.note-carry.auto.0 ∙ l.invariant.5,
       d.note-carry.auto.1.0 ∙ l.invariant.6,

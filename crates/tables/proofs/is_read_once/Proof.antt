@@ -10,4 +10,4 @@ is_read_once_spec =
     (λ c κs. search rules)  -- net-requires
     (λ c. search rules)  -- cast-byte-at
     (λ c κs. search rules)  -- byte-at-requires
-    (λ c. rw (c.byte_at_lem.ensures, c.before.net.ensures)))  -- returns
+    (λ c. rw (c.byte_at.ensures, c.before.net.ensures)))  -- returns

@@ -1,11 +1,11 @@
 -- The number is read in version 2 only.
 use Rattle.sheet.proofs.Laws.{tested}
 use borrow.Author.Rules.{rules}
-use Rattle.settings.proofs.board_number.Statement.{statement}
-use Rattle.settings.proofs.board_number.Tie as tie
+use Rattle.settings.proofs.board.Statement.{statement}
+use Rattle.settings.proofs.board.Tie as tie
 
-pub board_number_spec : {M : Type 1} → statement M
-board_number_spec =
+pub board_spec : {M : Type 1} → statement M
+board_spec =
     tie.close
     (tie.spec
     (λ c κs. search rules)  -- version-requires
