@@ -1,3 +1,5 @@
+#![tactic(auto)]
+
 ghost use Rattle.std.specs.Prelude.{◌≡◌, cond, [], min, length};
 ghost use Rattle.sheet.specs.Bytes.{begins_at};
 ghost use Rattle.answer.specs.Answer.{apprentice, place_count, wrong_answer_length, answer_number, opening_number, placed_of, placed_at, placed_number, placed_values, breaks_place, place_fields, place_start, place_part};
@@ -21,7 +23,7 @@ pub const MAX_ROW: u8 = 31;
 pub const MAX_LE: u8 = 15;
 
 // Column, row and logic element.
-#[derive(Drop)]
+#[derive(Clone, Copy)]
 pub struct Place {
     pub x: u8,
     pub y: u8,
@@ -29,7 +31,7 @@ pub struct Place {
 }
 
 // What a place record says.
-#[derive(Drop)]
+#[derive(Clone, Copy)]
 pub enum Placed {
     At(Place),
     OutOfRange,
@@ -50,6 +52,7 @@ pub fn place_count(answer: &[u8]) -> u16
 }
 
 // The number of 20 to 23 that applies to an answer, or 0.
+#[tactic(auto, unfolding(crate::specs::Answer::answer_number))]
 pub fn answer_number(answer: &[u8]) -> u8
     ensures { result ≡ answer_number answer.now }
 {
@@ -69,6 +72,7 @@ pub fn answer_number(answer: &[u8]) -> u8
 }
 
 // 25: the answer's length does not fit its own cell count.
+#[tactic(auto, unfolding(crate::specs::Answer::wrong_answer_length))]
 pub fn wrong_answer_length(answer: &[u8]) -> bool
     ensures { result ≡ wrong_answer_length answer.now }
 {
@@ -76,6 +80,7 @@ pub fn wrong_answer_length(answer: &[u8]) -> bool
 }
 
 // The number of 20 to 25 without 24 that applies to an answer, or 0.
+#[tactic(auto, unfolding(crate::specs::Answer::opening_number))]
 pub fn opening_number(answer: &[u8]) -> u8
     ensures { result ≡ opening_number answer.now }
 {
@@ -90,6 +95,7 @@ pub fn opening_number(answer: &[u8]) -> u8
 }
 
 // What a place record says. A part that is not 4 bytes long is out of range.
+#[tactic(auto, unfolding(crate::specs::Answer::placed_of))]
 pub fn decode_place(place: &[u8]) -> Placed
     ensures says { result ≡ placed_of place.now }
     ensures number { placed_number result ≡ cond (breaks_place place.now) 26 0 }
@@ -127,6 +133,7 @@ pub fn place_part(answer: &[u8], cell: CellNumber) -> &[u8]
 }
 
 // Where the answer puts a cell.
+#[tactic(auto, unfolding(crate::specs::Answer::placed_at))]
 pub fn place_at(answer: &[u8], cell: CellNumber) -> Placed
     ensures says { result ≡ placed_at answer.now cell.0 }
     ensures number { placed_number result ≡ cond (breaks_place (place_part answer.now cell.0)) 26 0 }

@@ -10,7 +10,7 @@ use lib.ListN.{length, get_or, set, replicate, length-set, length-replicate}
 use lib.Seq.{get_or-set_same, get_or-set_other}
 use lib.Dec.{eqb, ltb}
 use borrow.Author.Count.{below_more}
-use borrow.Author.Tests.{ltb-true, ltb-false, le-ltb, eqb-true, eqb-false, eq-eqb, ne_eqb, not_false}
+use borrow.Author.Tests.{ltb-true, ltb-false, le-ltb, eqb-true, eqb-false, eq-eqb, ne_eqb, not-false}
 use Rattle.sheet.specs.Lists.{first_from, anyb, below}
 use Rattle.sheet.proofs.Laws.{by_test, and_parts}
 use Rattle.sheet.proofs.First.{first_below, before_first, first_most, none_first}
@@ -184,7 +184,7 @@ any_same f g n h = any_below f n ∙ ap (λ (k : ℕ). ltb k n) (first_below f g
 module _ (e a : List ℕ) (n : ℕ) (keys : List ℕ) (r : ℕ) (found : r ≡ first_from (λ j. not (has_key e a j)) 0 n)
     (put : keys ≡ put_keys e a (replicate 512 0) r) (h : n ≤ r) where
   all_keyed : (i : ℕ) → i < n → has_key e a i ≡ true
-  all_keyed i l = not_false _ (before_first (λ j. not (has_key e a j)) n 0 i (omega arith) (omega arith))
+  all_keyed i l = not-false _ (before_first (λ j. not (has_key e a j)) n 0 i (omega arith) (omega arith))
 
   has_room : n ≤ 512
   has_room =

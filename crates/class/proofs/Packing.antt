@@ -8,7 +8,7 @@ use mathlib.Core.Bool.{false}
 use mathlib.Core.List.{List, [], ◌∷◌, ◌++◌, map}
 use lib.ListN.{length, drop, length-append, length-drop, take-append-drop}
 use lib.Seq.{length-take-le, drop-length, drop-cons, drop-drop, get_or-drop, take-append_seam, drop-append_seam}
-use borrow.Author.Tests.{eqb-true, eq-eqb, ltb-false, le-ltb, not_false}
+use borrow.Author.Tests.{eqb-true, eq-eqb, ltb-false, le-ltb, not-false}
 use Rattle.sheet.specs.Lists.{Every, concat_map, from, below}
 use Rattle.sheet.specs.Bytes.{byte_at, u16_at, u16_bytes, AllBytes}
 use Rattle.sheet.specs.Header.{wrong_mark, wrong_version}
@@ -153,7 +153,7 @@ module _ (k : List ℕ) (bytes : AllBytes k) where
   sheet_again rows h =
       let (short, (mark, (version, (few, (lengths, enough))))) = all_held (class_checks k rows) refl h in
       let long = ltb-false (length k) 7 short in
-      let ends = eqb-true (start_of k (answer_count k)) (length k) (not_false _ lengths) in
+      let ends = eqb-true (start_of k (answer_count k)) (length k) (not-false _ lengths) in
       let all = all_again (answer_count k) 0 (rw zero-add ends) in
       let count = table_length (answer_of k) (answer_count k) in
       let rest : drop 5 k ≡ u16_bytes (length (map (answer_of k) (below (answer_count k)))) ++ concat_map after_length (map (answer_of k) (below (answer_count k)))

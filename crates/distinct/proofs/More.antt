@@ -50,6 +50,7 @@ distinct_below n xs h =
 pub last_above : (b z a : ℕ) (l : List ℕ) → Above b (l ++ (a ∷ [])) → In z l → z < a
 last_above b z a (x ∷ l) h (inl e) = omega (arith, in_above (suc x) a (l ++ (a ∷ [])) h.1 (append_in a l (a ∷ []) (inr (inl refl))))
 last_above b z a (x ∷ l) h (inr m) = last_above (suc x) z a l h.1 m
+last_above b z a [] h x'' = elim x'' [ ]
 
 above_last : (b a : ℕ) (l : List ℕ) → Above b l → b ≤ a → ((z : ℕ) → In z l → z < a) → Above b (l ++ (a ∷ []))
 above_last b a [] h g f = (g, tt)

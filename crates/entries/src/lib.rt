@@ -1,3 +1,5 @@
+#![tactic(auto)]
+
 ghost use Rattle.std.specs.Prelude.{◌≡◌, get_or};
 ghost use Rattle.entries.specs.Table.{serves, no_needs, with_need};
 ghost use Rattle.entries.specs.passes.Entries.{holder, may_have, serves_other, differ_for};
@@ -5,14 +7,14 @@ ghost use Rattle.entries.specs.passes.Entries.{holder, may_have, serves_other, d
 use sheet::Signal;
 
 // What a register asks of its LAB: an entry of this role for this signal.
-#[derive(Drop)]
+#[derive(Clone, Copy)]
 pub struct Need {
     pub role: u8,
     pub signal: Signal,
 }
 
 // The needs of a LAB in order: the first `count` of the list.
-#[derive(Drop)]
+#[derive(Clone, Copy)]
 pub struct Needs {
     pub count: usize,
     pub list: [Need; 8],
@@ -38,6 +40,7 @@ impl Needs {
     }
 
     // One need more, where there is room for it.
+    #[tactic(auto, unfolding(crate::specs::Table::with_need))]
     pub fn with(self, need: Need) -> Self
         ensures { result ≡ with_need self need }
     {

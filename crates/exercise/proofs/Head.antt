@@ -5,7 +5,7 @@ use mathlib.Core.Bool.{false}
 use mathlib.Core.List.{List}
 use lib.ListN.{length}
 use lib.Dec.{ltb}
-use borrow.Author.Tests.{eqb-true, ltb-false, not_false}
+use borrow.Author.Tests.{eqb-true, ltb-false, not-false}
 use Rattle.sheet.specs.Header.{wrong_mark, wrong_version}
 use Rattle.sheet.proofs.Laws.{or_parts}
 use Rattle.sheet.proofs.Checks.{all_held}
@@ -17,4 +17,4 @@ unfolding exercise_number over_limit wrong_exercise_length
 headed e h =
     let (_, (mark, (version, (limit, (size, _))))) = all_held (exercise_checks e) refl h in
     let (nets, cells) = or_parts (ltb 1024 (net_count e)) (ltb 512 (cell_count e)) limit in
-    (mark, version, ltb-false _ _ nets, ltb-false _ _ cells, eqb-true _ _ (not_false _ size))
+    (mark, version, ltb-false _ _ nets, ltb-false _ _ cells, eqb-true _ _ (not-false _ size))

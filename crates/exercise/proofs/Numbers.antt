@@ -6,7 +6,7 @@ use mathlib.Core.Bool.{true, false, cond, not, ◌||◌, true≢false}
 use mathlib.Core.List.{List, []}
 use lib.ListN.{length}
 use lib.Dec.{eqb, ltb}
-use borrow.Author.Tests.{eqb-true, eqb-false, ne_eqb, ltb-false, not_true}
+use borrow.Author.Tests.{eqb-true, eqb-false, ne_eqb, ltb-false, not-true}
 use Rattle.sheet.specs.Signal.{connected}
 use Rattle.exercise.specs.Record.{kind_of, flag_of, code_at, combinational_of, register_of, bad_combinational, bad_register, bad_tail}
 use Rattle.exercise.specs.Record.{keeps_combinational, keeps_register, breaks_layout, record_fields, record_of, record_number, record_values}
@@ -56,7 +56,7 @@ module _ (nets : ℕ) (p : List ℕ) where
   unfolding keeps_combinational record_fields
   combinational_fields k h =
       let bad = bad_combinational nets (combinational_of p) in
-      let a = or_parts (ltb 1 (flag_of p) || bad || connected (code_at p 7)) (bad_tail p) (not_true _ h) in
+      let a = or_parts (ltb 1 (flag_of p) || bad || connected (code_at p 7)) (bad_tail p) (not-true _ h) in
       let b = or_parts (ltb 1 (flag_of p) || bad) (connected (code_at p 7)) a.0 in
       let c = or_parts (ltb 1 (flag_of p)) bad b.0 in
       let t = tail_zero a.1 in
@@ -66,7 +66,7 @@ module _ (nets : ℕ) (p : List ℕ) where
   unfolding keeps_register record_fields
   register_fields k h =
       let bad = bad_register nets (register_of p) in
-      let a = or_parts (ltb 0 (flag_of p) || bad) (bad_tail p) (not_true _ h) in
+      let a = or_parts (ltb 0 (flag_of p) || bad) (bad_tail p) (not-true _ h) in
       let b = or_parts (ltb 0 (flag_of p)) bad a.0 in
       let t = tail_zero a.1 in
       let none : flag_of p ≡ 0 = omega (arith, ltb-false 0 (flag_of p) b.0) in

@@ -1,3 +1,5 @@
+#![tactic(auto)]
+
 ghost use Rattle.std.specs.Prelude.{◌≡◌, cond, [], ◌<◌, min, length};
 ghost use Rattle.sheet.specs.Bytes.{begins_at};
 ghost use Rattle.sheet.specs.Signal.{connected};
@@ -27,7 +29,7 @@ pub const CELL_NUMBERS: usize = 12;
 pub type Cell = [u16; CELL_NUMBERS];
 
 // A combinational cell: sums_cin says sum_lutc_input = cin.
-#[derive(Drop)]
+#[derive(Clone, Copy)]
 pub struct CombinationalCell {
     pub sums_cin: bool,
     pub dataa: Signal,
@@ -39,7 +41,7 @@ pub struct CombinationalCell {
     pub cout: Signal,
 }
 
-#[derive(Drop)]
+#[derive(Clone, Copy)]
 pub struct RegisterCell {
     pub datain: Signal,
     pub clk: Signal,
@@ -52,7 +54,7 @@ pub struct RegisterCell {
 }
 
 // What a cell's record says.
-#[derive(Drop)]
+#[derive(Clone, Copy)]
 pub enum Record {
     Combinational(CombinationalCell),
     Register(RegisterCell),
@@ -73,6 +75,7 @@ pub fn cell_count(exercise: &[u8]) -> u16
     sheet::u16_at(exercise, CELLS_AT)
 }
 
+#[tactic(auto, unfolding(crate::specs::Exercise::over_limit))]
 fn over_limit(exercise: &[u8]) -> bool
     ensures { result ≡ over_limit exercise.now }
 {
@@ -81,6 +84,7 @@ fn over_limit(exercise: &[u8]) -> bool
     nets | cells
 }
 
+#[tactic(auto, unfolding(crate::specs::Exercise::wrong_exercise_length))]
 fn wrong_exercise_length(exercise: &[u8]) -> bool
     ensures { result ≡ wrong_exercise_length exercise.now }
 {
@@ -88,6 +92,7 @@ fn wrong_exercise_length(exercise: &[u8]) -> bool
 }
 
 // The number of 10 to 14 that applies to an exercise, or 0.
+#[tactic(auto, unfolding(crate::specs::Exercise::exercise_number))]
 pub fn exercise_number(exercise: &[u8]) -> u8
     ensures { result ≡ exercise_number exercise.now }
 {
@@ -151,6 +156,7 @@ fn register_of(bytes: &[u8]) -> RegisterCell
 }
 
 // Whether a signal of the cell is bad, at an input or at an output.
+#[tactic(auto, unfolding(crate::specs::Record::bad_combinational))]
 fn bad_combinational(cell: CombinationalCell, nets: u16) -> bool
     ensures { result ≡ bad_combinational nets cell }
 {
@@ -163,6 +169,7 @@ fn bad_combinational(cell: CombinationalCell, nets: u16) -> bool
         | cell.cout.is_bad_output(nets)
 }
 
+#[tactic(auto, unfolding(crate::specs::Record::bad_register))]
 fn bad_register(cell: RegisterCell, nets: u16) -> bool
     ensures { result ≡ bad_register nets cell }
 {
@@ -186,6 +193,7 @@ fn connected_at(bytes: &[u8], j: usize) -> bool
 }
 
 // Whether one of the last three signals, which no kind uses, is not zero.
+#[tactic(auto, unfolding(crate::specs::Record::bad_tail))]
 fn bad_tail(bytes: &[u8]) -> bool
     requires { length bytes.now ≡ 24 }
     ensures { result ≡ bad_tail bytes.now }
@@ -194,6 +202,7 @@ fn bad_tail(bytes: &[u8]) -> bool
 }
 
 // Whether a record of kind 1 with this cell keeps its layout.
+#[tactic(auto, unfolding(crate::specs::Record::keeps_combinational))]
 fn keeps_combinational(bytes: &[u8], cell: CombinationalCell, nets: u16) -> bool
     requires { (length bytes.now ≡ 24) × (cell ≡ combinational_of bytes.now) }
     ensures { result ≡ keeps_combinational nets bytes.now }
@@ -203,6 +212,7 @@ fn keeps_combinational(bytes: &[u8], cell: CombinationalCell, nets: u16) -> bool
 }
 
 // Whether a record of kind 2 with this cell keeps its layout.
+#[tactic(auto, unfolding(crate::specs::Record::keeps_register))]
 fn keeps_register(bytes: &[u8], cell: RegisterCell, nets: u16) -> bool
     requires { (length bytes.now ≡ 24) × (cell ≡ register_of bytes.now) }
     ensures { result ≡ keeps_register nets bytes.now }
@@ -212,6 +222,7 @@ fn keeps_register(bytes: &[u8], cell: RegisterCell, nets: u16) -> bool
 }
 
 // What a record says, in an exercise with so many nets. A part that is not 24 bytes long is malformed.
+#[tactic(auto, unfolding(crate::specs::Record::record_of))]
 pub fn decode_record(bytes: &[u8], nets: u16) -> Record
     ensures says { result ≡ record_of nets bytes.now }
     ensures number { record_number result ≡ cond (breaks_layout nets bytes.now) 15 0 }
@@ -254,6 +265,7 @@ pub fn record_part(exercise: &[u8], cell: CellNumber) -> &[u8]
 }
 
 // What the record of a cell says.
+#[tactic(auto, unfolding(crate::specs::Record::record_at))]
 pub fn record_at(exercise: &[u8], cell: CellNumber, nets: u16) -> Record
     ensures says { result ≡ record_at nets exercise.now cell.0 }
     ensures number { record_number result ≡ cond (breaks_layout nets (record_part exercise.now cell.0)) 15 0 }
@@ -263,6 +275,7 @@ pub fn record_at(exercise: &[u8], cell: CellNumber, nets: u16) -> Record
 }
 
 // What a record says that keeps the layout: nothing but its kind is tested.
+#[tactic(auto, unfolding(crate::specs::passes::Known::known_of))]
 fn decode_known(bytes: &[u8]) -> Record
     ensures { result ≡ known_of bytes.now }
 {
@@ -276,6 +289,7 @@ fn decode_known(bytes: &[u8]) -> Record
 }
 
 // What the record of a cell says, in an exercise that passes 15; of any other it says what nobody asks.
+#[tactic(auto, unfolding(crate::specs::passes::Known::known_at))]
 pub fn known_record_at(exercise: &[u8], cell: CellNumber) -> Record
     ensures { result ≡ known_at exercise.now cell.0 }
 {

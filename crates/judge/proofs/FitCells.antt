@@ -7,7 +7,7 @@ use mathlib.Core.List.{List, [], ◌∷◌, map}
 use native.Mathlib.Omega.{arith}
 use lib.Dec.{eqb}
 use borrow.Author.Rules.{rules}
-use borrow.Author.Tests.{eqb-true, leb-false, not_false}
+use borrow.Author.Tests.{eqb-true, leb-false, not-false}
 use Rattle.sheet.specs.Lists.{filterb, elemb, from}
 use Rattle.sheet.specs.Checks.{first_number}
 use Rattle.sheet.specs.Signal.{connected, is_net, is_bad, is_bad_output}
@@ -48,7 +48,7 @@ input_of_all s Malformed m = m
 
 -- ---- 34
 pub enable_clocked : (r : RegisterCell) → first_number (register_checks r) ≡ 0 → connected (ena r) ≡ true → connected (clk r) ≡ true
-enable_clocked r h on = not_false (connected (clk r)) (rw on at (held_number 34 (register_checks r) (search rules) h))
+enable_clocked r h on = not-false (connected (clk r)) (rw on at (held_number 34 (register_checks r) (search rules) h))
 
 -- ---- cells
 pub cell_fit : (e : List ℕ) (i : ℕ) → net_count e ≤ 1024 → first_number (cell_checks e i) ≡ 0 → Fit (cell e i)

@@ -7,7 +7,7 @@ use mathlib.Core.List.{List, ◌++◌}
 use native.Mathlib.Omega.{arith}
 use lib.ListN.{length}
 use lib.Dec.{ltb}
-use borrow.Author.Tests.{eqb-true, ltb-false, not_false}
+use borrow.Author.Tests.{eqb-true, ltb-false, not-false}
 use Rattle.sheet.specs.Checks.{first_number, NONE}
 use Rattle.exercise.specs.Exercise.{net_count, cell_count, record_start, over_limit, wrong_exercise_length}
 use Rattle.settings.specs.Settings.{settings_checks, settings_number}
@@ -28,14 +28,14 @@ use Rattle.judge.proofs.Held.{hold_each, hold_run, hold_number, HeldGroups, held
 -- 14
 pub exercise_length : (e : List ℕ) → AllHold (exercise_head e) → length e ≡ record_start (cell_count e)
 unfolding wrong_exercise_length
-exercise_length e h = eqb-true (length e) (record_start (cell_count e)) (not_false _ (held 14 (exercise_head e) h))
+exercise_length e h = eqb-true (length e) (record_start (cell_count e)) (not-false _ (held 14 (exercise_head e) h))
 
 -- 24 and 25
 pub answer_length : (e a : List ℕ) → AllHold (answer_head e a) → length a ≡ place_start (cell_count e)
 unfolding wrong_answer_length
 answer_length e a h =
-    let same = eqb-true (place_count a) (cell_count e) (not_false _ (held 24 (answer_head e a) h)) in
-    eqb-true (length a) (place_start (place_count a)) (not_false _ (held 25 (answer_head e a) h)) ∙ rw same
+    let same = eqb-true (place_count a) (cell_count e) (not-false _ (held 24 (answer_head e a) h)) in
+    eqb-true (length a) (place_start (place_count a)) (not-false _ (held 25 (answer_head e a) h)) ∙ rw same
 
 module _ (e a : List ℕ) where
   pub exercise_parts : AllHold (exercise_group e) → AllHold (exercise_head e) × AllHold (record_run e ++ driver_run e)

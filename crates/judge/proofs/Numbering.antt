@@ -3,7 +3,7 @@ use Prim.Native.Nat.{ℕ, ◌<◌}
 use mathlib.Core.Path.{◌≡◌}
 use mathlib.Core.Bool.{not}
 use lib.Dec.{eqb, ltb}
-use borrow.Author.Tests.{ltb-true, eqb-true, eqb-false, not_true, not_false}
+use borrow.Author.Tests.{ltb-true, eqb-true, eqb-false, not-true, not-false}
 use Rattle.sheet.specs.Lists.{first_from}
 use Rattle.sheet.proofs.Laws.{by_test}
 use Rattle.sheet.proofs.First.{first_below, none_below, some_below}
@@ -25,5 +25,5 @@ module _ (found : ℕ → ℕ → Finding) where
   unfolding numbered_as
   numbered_none told g n z i h =
       by_test (ltb (first_from (λ j. not (eqb (g j) 0)) 0 n) n)
-      (λ p. absurd (eqb-false (g (first_from (λ j. not (eqb (g j) 0)) 0 n)) 0 (not_true _ (some_below (λ j. not (eqb (g j) 0)) n p)) (rw (p, told) at z)))
-      (λ p. eqb-true (g i) 0 (not_false _ (none_below (λ j. not (eqb (g j) 0)) n p i h)))
+      (λ p. absurd (eqb-false (g (first_from (λ j. not (eqb (g j) 0)) 0 n)) 0 (not-true _ (some_below (λ j. not (eqb (g j) 0)) n p)) (rw (p, told) at z)))
+      (λ p. eqb-true (g i) 0 (not-false _ (none_below (λ j. not (eqb (g j) 0)) n p i h)))

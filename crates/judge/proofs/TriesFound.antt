@@ -9,7 +9,7 @@ use native.Mathlib.Nat.{eq-or-lt_of_le}
 use native.Mathlib.Omega.{arith}
 use lib.ListN.{replicate}
 use lib.Dec.{eqb, ltb}
-use borrow.Author.Tests.{ltb-true, ltb-false, lt-ltb, le-ltb, eqb-true, not_false}
+use borrow.Author.Tests.{ltb-true, ltb-false, lt-ltb, le-ltb, eqb-true, not-false}
 use Rattle.sheet.specs.Lists.{first_from, below, elemb}
 use Rattle.sheet.specs.Checks.{NONE}
 use Rattle.sheet.proofs.Laws.{by_test}
@@ -48,7 +48,7 @@ module _ (g : ℕ → ℕ) where
   stop = first_from (λ i. not (eqb (g i) 0)) 0 1024
 
   low_zero : (l : ℕ) → l < stop → g l ≡ 0
-  low_zero l h = eqb-true (g l) 0 (not_false _ (before_first (λ i. not (eqb (g i) 0)) 1024 0 l (omega arith) h))
+  low_zero l h = eqb-true (g l) 0 (not-false _ (before_first (λ i. not (eqb (g i) 0)) 1024 0 l (omega arith) h))
 
   stops : stop < 1024 → numbered_lab g ≡ finding (g stop) NONE stop
   unfolding numbered_as

@@ -9,7 +9,7 @@ use native.Mathlib.Numerals.{add-one}
 use lib.ListN.{length, get_or, drop, replicate}
 use lib.Seq.{drop-cons, drop-length}
 use lib.Dec.{eqb, ltb}
-use borrow.Author.Tests.{eqb-true, eqb-false, ne_eqb, not_false}
+use borrow.Author.Tests.{eqb-true, eqb-false, ne_eqb, not-false}
 use Rattle.sheet.specs.Lists.{anyb}
 use Rattle.sheet.specs.Checks.{first_number}
 use Rattle.exercise.specs.declared.RegisterCell.{RegisterCell}
@@ -80,7 +80,7 @@ one_kept k c d e marks nets m counts n bad u = rw (ap (λ (x : Marking). x.marks
 -- ---- fit records
 register_kept : (r : RegisterCell) → unfit (Register r) ≡ false → first_number (register_checks r) ≡ 0
 unfolding unfit
-register_kept r h = eqb-true _ _ (not_false _ h)
+register_kept r h = eqb-true _ _ (not-false _ h)
 
 record_fit : (c : Cell) → unfit (record_from c) ≡ false → Fit (record_from c)
 unfolding record_from

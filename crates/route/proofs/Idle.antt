@@ -10,7 +10,7 @@ use native.Mathlib.Omega.{arith}
 use lib.ListN.{length, get_or, set, length-set, get_or-eq_default}
 use lib.Dec.{eqb, ltb}
 use lib.Seq.{get_or-set_same, get_or-set_other}
-use borrow.Author.Tests.{eqb-true, eqb-false, eq-eqb, ltb-true, ltb-false, not_true}
+use borrow.Author.Tests.{eqb-true, eqb-false, eq-eqb, ltb-true, ltb-false, not-true}
 use Rattle.sheet.specs.Lists.{Every, anyb}
 use Rattle.sheet.proofs.Laws.{by_test, or_parts}
 use Rattle.entries.specs.declared.Need.{Need}
@@ -128,7 +128,7 @@ module _ (t : Table) where
     )
 
     none_other : (ns : List Need) → is_idle t held n ns e ≡ true → get_or held e 0 ≡ 0 → anyb (serves_other t n e) ns ≡ false
-    none_other ns h f = not_true (anyb (serves_other t n e) ns) (rw (eq-eqb (get_or held e 0) 0 f) at h)
+    none_other ns h f = not-true (anyb (serves_other t n e) ns) (rw (eq-eqb (get_or held e 0) 0 f) at h)
 
     idle_alike : (ns : List Need) → is_idle t held n ns e ≡ true → AlikeFor (held_by held n e) held ns
     idle_alike ns h = (length-set held e (holder n), every_idle ns (none_other ns h))

@@ -10,7 +10,7 @@ use native.Mathlib.Omega.{arith}
 use lib.ListN.{length, get_or, set, replicate, length-set, length-replicate, get_or-replicate}
 use lib.Dec.{eqb}
 use lib.Seq.{slice, get_or-set_same, get_or-set_other}
-use borrow.Author.Tests.{eqb-true, eqb-false, eq-eqb, ne_eqb, not_true}
+use borrow.Author.Tests.{eqb-true, eqb-false, eq-eqb, ne_eqb, not-true}
 use Rattle.sheet.specs.Lists.{anyb}
 use Rattle.sheet.proofs.Laws.{by_test, and_parts}
 use Rattle.entries.specs.declared.Need.{Need}
@@ -138,7 +138,7 @@ module _ (t : Table) (held : List ℕ) (needs : List Need) (n at : ℕ) where
           let kind-e = busy_kind t held (need_at needs at) (slice (at + 1) n needs) e q in
           let busy-f = kind_busy t held (need_at needs at) (slice (at + 1) n needs) f (k ∙ kind-e) in
           let alike : anyb (differ_for t f e) (slice (at + 1) n needs) ≡ false
-          = not_true (anyb (differ_for t f e) (slice (at + 1) n needs)) (rw kind-e at parts.1) in
+          = not-true (anyb (differ_for t f e) (slice (at + 1) n needs)) (rw kind-e at parts.1) in
           let fail =
           twins_fail t f e ENTRIES low high held long (busy_free t held (need_at needs at) (slice (at + 1) n needs) f busy-f)
           (busy_free t held (need_at needs at) (slice (at + 1) n needs) e q) (need_at needs at) (slice (at + 1) n needs) alike nothing in

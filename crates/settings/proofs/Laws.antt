@@ -5,7 +5,7 @@ use mathlib.Core.Path.{◌≡◌, refl}
 use mathlib.Core.Bool.{false}
 use mathlib.Core.List.{List}
 use lib.ListN.{length, length-map, length-take, length-drop}
-use borrow.Author.Tests.{eqb-true, ltb-false, not_false}
+use borrow.Author.Tests.{eqb-true, ltb-false, not-false}
 use Rattle.sheet.specs.Header.{wrong_mark}
 use Rattle.sheet.proofs.Checks.{all_held, found}
 use Rattle.entries.specs.Table.{ENTRIES, house_board, eight_rows}
@@ -25,7 +25,7 @@ pub passed : (s : List ℕ) → settings_number s ≡ 0 → Passed s
 unfolding settings_number wrong_settings_length
 passed s h =
     let (_, (mark, (kind, (count, (size, (roles, _)))))) = all_held (settings_checks s) refl h in
-    record { marked = mark; known = kind; few = ltb-false _ _ count; long = eqb-true _ _ (not_false _ size); roles = roles }
+    record { marked = mark; known = kind; few = ltb-false _ _ count; long = eqb-true _ _ (not-false _ size); roles = roles }
 
 -- it has as many bytes of flags as it says
 pub flags_length : (s : List ℕ) → Passed s → length (flags s) ≡ entry_count s

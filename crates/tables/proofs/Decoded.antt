@@ -7,7 +7,7 @@ use mathlib.Core.List.{List, [], ◌∷◌}
 use native.Mathlib.Omega.{arith}
 use lib.ListN.{length}
 use lib.Dec.{eqb, ltb, leb}
-use borrow.Author.Tests.{leb-true, leb-false, eqb-true, not_true, not_false}
+use borrow.Author.Tests.{leb-true, leb-false, eqb-true, not-true, not-false}
 use Rattle.sheet.specs.Lists.{elemb}
 use Rattle.sheet.specs.Signal.{connected, is_net, net_of, is_inverted, is_bad, is_bad_output}
 use Rattle.exercise.specs.Record.{record_of, kind_of, flag_of, code_at, keeps_combinational, keeps_register, bad_combinational, bad_register, bad_tail, combinational_of, register_of, outputs}
@@ -42,11 +42,11 @@ no_bad_signal nets p =
     (λ k. by_test (keeps_combinational nets p)
     (λ h. rw (l, k, h)
     (or_middle (ltb 1 (flag_of p)) (bad_combinational nets (combinational_of p)) (connected (code_at p 7))
-    (or_parts (ltb 1 (flag_of p) || bad_combinational nets (combinational_of p) || connected (code_at p 7)) (bad_tail p) (not_true _ h)).0))
+    (or_parts (ltb 1 (flag_of p) || bad_combinational nets (combinational_of p) || connected (code_at p 7)) (bad_tail p) (not-true _ h)).0))
     (λ h. rw (l, k, h)))
     (λ k. by_test (eqb (kind_of p) 2)
     (λ r. by_test (keeps_register nets p)
-    (λ h. rw (l, k, r, h) (or_middle (ltb 0 (flag_of p)) (bad_register nets (register_of p)) (bad_tail p) (not_true _ h)))
+    (λ h. rw (l, k, r, h) (or_middle (ltb 0 (flag_of p)) (bad_register nets (register_of p)) (bad_tail p) (not-true _ h)))
     (λ h. rw (l, k, r, h)))
     (λ r. rw (l, k, r))))
 
@@ -71,7 +71,7 @@ pub good_output : (nets s : ℕ) → is_bad_output nets s ≡ false → connecte
 good_output nets s h c =
     let g = or_parts (not (is_net s) || is_inverted s) (is_bad nets s) (rw c at h) in
     let k = or_parts (not (is_net s)) (is_inverted s) g.0 in
-    let n = not_false (is_net s) k.0 in
+    let n = not-false (is_net s) k.0 in
     (n, k.1, good_net nets s g.1 n)
 
 pub same_net : (s t : ℕ) → is_net s ≡ true → is_inverted s ≡ false → is_net t ≡ true → is_inverted t ≡ false → net_of s ≡ net_of t → s ≡ t

@@ -8,7 +8,7 @@ use native.Mathlib.Omega.{arith}
 use lib.ListN.{length, get_or, replicate, length-replicate}
 use lib.Seq.{get_or-set_same, get_or-set_other}
 use lib.Dec.{eqb}
-use borrow.Author.Tests.{ne_eqb, eqb-true, eqb-false, leb-true, not_false}
+use borrow.Author.Tests.{ne_eqb, eqb-true, eqb-false, leb-true, not-false}
 use Rattle.sheet.specs.Lists.{filterb, elemb, first_from}
 use Rattle.sheet.specs.Signal.{connected, is_net, net_of, is_inverted, is_bad_output}
 use Rattle.exercise.specs.Exercise.{net_count, record_part}
@@ -32,7 +32,7 @@ pub code_net : (s : ℕ) → is_net s ≡ true → is_inverted s ≡ false → c
 code_net s n i = let a = leb-true 4 s n in let x = upright_even s n i in omega arith
 
 pub unconnected : (s : ℕ) → connected s ≡ false → s ≡ 0
-unconnected s h = eqb-true s 0 (not_false (eqb s 0) h)
+unconnected s h = eqb-true s 0 (not-false (eqb s 0) h)
 
 -- no output of the list is bad
 abbrev Good : ℕ → List ℕ → Type 0

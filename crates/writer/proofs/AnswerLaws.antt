@@ -7,7 +7,7 @@ use mathlib.Core.List.{List, [], ◌∷◌}
 use native.Mathlib.Omega.{arith}
 use lib.ListN.{length, get_or, take}
 use lib.Dec.{eqb, ltb}
-use borrow.Author.Tests.{eq-eqb, le-ltb, eqb-true, eqb-false, ltb-false, not_false}
+use borrow.Author.Tests.{eq-eqb, le-ltb, eqb-true, eqb-false, ltb-false, not-false}
 use Rattle.sheet.specs.Lists.{anyb, below}
 use Rattle.sheet.specs.Bytes.{byte_at, u16_at, AllBytes}
 use Rattle.sheet.specs.Checks.{check}
@@ -54,7 +54,7 @@ fields_again p h =
     let (size, range) = or_parts (not (eqb (length p) 4)) (out_of_range p) h in
     let fields = ltb 31 (byte_at p 0) || ltb 31 (byte_at p 1) || ltb 15 (byte_at p 2) in
     let last = (or_parts fields (not (eqb (byte_at p 3) 0)) range).1 in
-    rw (eqb-true (byte_at p 3) 0 (not_false _ last)) at (bytes_whole p 4 (eqb-true (length p) 4 (not_false _ size)))
+    rw (eqb-true (byte_at p 3) 0 (not-false _ last)) at (bytes_whole p 4 (eqb-true (length p) 4 (not-false _ size)))
 
 -- ---- what 20 to 25 without 24 leave
 opened : (a : List ℕ) → opening_number a ≡ 0
@@ -65,7 +65,7 @@ opened a h =
     by_test (eqb first 0)
     (λ t. let (_, (mark, (version, (named, _)))) = all_held (answer_checks a) refl (eqb-true first 0 t) in
     let (size, _) = all_held (check 25 (wrong_answer_length a) ∷ []) refl (rw t at h) in
-    (mark, version, named, eqb-true _ _ (not_false _ size)))
+    (mark, version, named, eqb-true _ _ (not-false _ size)))
     (λ t. absurd (eqb-false first 0 t (rw t at h)))
 
 -- ---- the first law

@@ -8,7 +8,7 @@ use native.Mathlib.Omega.{arith}
 use lib.ListN.{length, take}
 use lib.Seq.{take_all, take-add}
 use lib.Dec.{eqb}
-use borrow.Author.Tests.{eq-eqb, le-ltb, eqb-true, ltb-false, not_false}
+use borrow.Author.Tests.{eq-eqb, le-ltb, eqb-true, ltb-false, not-false}
 use Rattle.sheet.specs.Bytes.{byte_at, AllBytes}
 use Rattle.sheet.specs.Header.{wrong_mark}
 use Rattle.sheet.proofs.Checks.{none_broken, all_held}
@@ -35,7 +35,7 @@ number_left : (v number : ℕ) → wrong_board v number ≡ false → eqb v 2 �
 unfolding wrong_board
 number_left v number h second =
     let (known, zero) = or_parts (unknown_version v) (eqb v 1 && not (eqb number 0)) h in
-    eqb-true number 0 (not_false _ (rw (version_left v known second) at zero))
+    eqb-true number 0 (not-false _ (rw (version_left v known second) at zero))
 
 -- ---- the first law
 module _ (x : Board) where
