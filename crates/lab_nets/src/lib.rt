@@ -1,3 +1,5 @@
+#![tactic(auto)]
+
 ghost use Rattle.std.specs.Prelude.{◌≡◌, [], ◌∷◌, map};
 ghost use Rattle.exercise.specs.declared.Record.«TheVariants».{Combinational, Register};
 ghost use Rattle.distinct.specs.passes.Marks.{reads, drives, marking, mark_all};
@@ -46,6 +48,7 @@ fn mark_four(
     mark_input(marks, lab, count, d)
 }
 
+#[tactic(auto, unfolding(crate::specs::NetsIn::inputs, exercise::specs::Record::outputs))]
 fn mark_combinational(marks: &mut [u16], lab: LabMarks, count: u16, cell: CombinationalCell) -> u16
     ensures { marking marks.new result ≡ mark_all lab (marking marks.old count) (uses_of (Combinational cell)) }
 {
@@ -56,6 +59,7 @@ fn mark_combinational(marks: &mut [u16], lab: LabMarks, count: u16, cell: Combin
     mark_output(marks, lab, count, cell.cout)
 }
 
+#[tactic(auto, unfolding(crate::specs::NetsIn::inputs, exercise::specs::Record::outputs))]
 fn mark_register(marks: &mut [u16], lab: LabMarks, count: u16, cell: RegisterCell) -> u16
     ensures { marking marks.new result ≡ mark_all lab (marking marks.old count) (uses_of (Register cell)) }
 {

@@ -1,3 +1,5 @@
+#![tactic(auto)]
+
 ghost use Rattle.std.specs.Prelude.{◌≡◌, true, false, ◌+◌, ◌≤◌, ◌<◌, get_or};
 ghost use Rattle.std.proofs.Math.Seq.{slice};
 ghost use Rattle.entries.specs.Table.{ENTRIES, need_at, need_list};
@@ -12,28 +14,28 @@ ghost use Rattle.route.specs.passes.Partial.{no_entries, with_entry, routed_from
 use entries::{ENTRIES, EntryTable, Need, Needs};
 
 // The entry of each need, and 255 past the needs; found says whether there is a way.
-#[derive(Drop)]
+#[derive(Clone, Copy)]
 pub struct Routed {
     pub found: bool,
     pub entries: [u8; 8],
 }
 
 // The eight route bytes of a LAB; found says whether there is a way.
-#[derive(Drop)]
+#[derive(Clone, Copy)]
 pub struct LabRoute {
     pub found: bool,
     pub bytes: [u8; 8],
 }
 
 // What a search found, and how many tries it made.
-#[derive(Drop)]
+#[derive(Clone, Copy)]
 pub struct WaySearch {
     pub way: Routed,
     pub tries: u32,
 }
 
 // The route of a LAB, and how many tries the search for it made.
-#[derive(Drop)]
+#[derive(Clone, Copy)]
 pub struct RouteSearch {
     pub route: LabRoute,
     pub tries: u32,

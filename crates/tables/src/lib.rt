@@ -1,3 +1,5 @@
+#![tactic(auto)]
+
 ghost use Rattle.std.specs.Prelude.{◌≡◌, cond, [], ◌∷◌, eqb, get_or, set, replicate};
 ghost use Rattle.sheet.specs.Lists.{first_from};
 ghost use Rattle.sheet.specs.Signal.{is_net, net_of};
@@ -11,6 +13,7 @@ use exercise::{CombinationalCell, Record, RegisterCell};
 use sheet::{CellNumber, Signal};
 
 // 15: the lowest cell whose record breaks the layout, or the number of cells.
+#[tactic(auto, unfolding(crate::specs::passes::Tables::malformed_at))]
 pub fn first_malformed(exercise: &[u8], nets: u16, cells: u16) -> u16
     ensures { result ≡ first_from (malformed_at nets exercise.now) 0 cells }
 {
@@ -29,6 +32,7 @@ pub fn first_malformed(exercise: &[u8], nets: u16, cells: u16) -> u16
 }
 
 // Marks a net as driven. Whether it was marked already.
+#[tactic(auto, unfolding(crate::specs::passes::Tables::is_marked, crate::specs::passes::Tables::with_mark))]
 fn mark(marks: &mut [u8], signal: Signal) -> bool
     ensures again { result ≡ is_marked marks.old signal.0 }
     ensures marked { marks.new ≡ with_mark marks.old signal.0 }
@@ -45,6 +49,7 @@ fn mark(marks: &mut [u8], signal: Signal) -> bool
 }
 
 // Whether a cell drives a net that is marked already, or one twice. Its nets are marked.
+#[tactic(auto, unfolding(crate::specs::passes::Tables::mark_each, crate::specs::passes::Tables::marked_twice, exercise::specs::Record::outputs))]
 fn drives_again(marks: &mut [u8], cell: Record) -> bool
     ensures again { result ≡ marked_twice marks.old (outputs cell) }
     ensures marked { marks.new ≡ mark_each marks.old (outputs cell) }
@@ -79,6 +84,7 @@ pub fn first_double_driver(exercise: &[u8], cells: u16) -> u16
 }
 
 // Counts a read of the signal's net: once, or more than once.
+#[tactic(auto, unfolding(crate::specs::passes::Tables::read_once))]
 fn note_read(reads: &mut [u8], signal: Signal)
     ensures { reads.new ≡ read_once reads.old signal.0 }
 {
@@ -95,6 +101,7 @@ fn note_read(reads: &mut [u8], signal: Signal)
 }
 
 // Counts the reads at all input ports of a cell.
+#[tactic(auto, unfolding(crate::specs::Records::all_inputs, crate::specs::passes::Tables::read_each))]
 fn note_reads(reads: &mut [u8], cell: Record)
     ensures { reads.new ≡ read_each reads.old (all_inputs cell) }
 {
@@ -105,6 +112,7 @@ fn note_reads(reads: &mut [u8], cell: Record)
     }
 }
 
+#[tactic(auto, unfolding(crate::specs::passes::Tables::read_each))]
 fn note_four(reads: &mut [u8], a: Signal, b: Signal, c: Signal, d: Signal)
     ensures { reads.new ≡ read_each reads.old (a.0 ∷ b.0 ∷ c.0 ∷ d.0 ∷ []) }
 {
@@ -114,6 +122,7 @@ fn note_four(reads: &mut [u8], a: Signal, b: Signal, c: Signal, d: Signal)
     note_read(reads, d);
 }
 
+#[tactic(auto, unfolding(crate::specs::Records::all_inputs, crate::specs::passes::Tables::read_each))]
 fn note_combinational(reads: &mut [u8], cell: CombinationalCell)
     ensures { reads.new ≡ read_each reads.old (all_inputs (Combinational cell)) }
 {
@@ -121,6 +130,7 @@ fn note_combinational(reads: &mut [u8], cell: CombinationalCell)
     note_read(reads, cell.cin);
 }
 
+#[tactic(auto, unfolding(crate::specs::Records::all_inputs, crate::specs::passes::Tables::read_each))]
 fn note_register(reads: &mut [u8], cell: RegisterCell)
     ensures { reads.new ≡ read_each reads.old (all_inputs (Register cell)) }
 {
@@ -155,6 +165,7 @@ fn note_carry(readers: &mut [u16], drivers: &mut [u16], i: CellNumber, cell: Rec
 }
 
 // Fills the tables by net in one pass, from an exercise that passes 15: how often a net is read, which cell reads it at cin, which cell's cout drives it.
+#[tactic(auto, unfolding(crate::specs::passes::Tables::drivers_below, crate::specs::passes::Tables::readers_below, crate::specs::passes::Tables::reads_below))]
 pub fn fill_tables(
     exercise: &[u8],
     cells: u16,

@@ -1,3 +1,5 @@
+#![tactic(auto)]
+
 ghost use Rattle.std.specs.Prelude.{◌≡◌, cond, ◌+◌, ◌<◌, length, set};
 ghost use Rattle.std.proofs.lemmas.List.Edits.{sets};
 ghost use Rattle.tablet_log.specs.Log.{entry_count, entry_at, bad_entry, bad_at};
@@ -31,7 +33,7 @@ const OPENING_AT: usize = 6;
 const CLOSING_AT: usize = 8;
 
 // What an entry says of whom to credit with what.
-#[derive(Drop)]
+#[derive(Clone, Copy)]
 pub struct Entry {
     pub apprentice: u32,
     pub opening: u16,
@@ -42,7 +44,7 @@ pub struct Entry {
 pub type Credit = [u32; 2];
 
 // What a call says: 0 and how many rows and entry numbers are filled, or a refusal and twice 0.
-#[derive(Drop)]
+#[derive(Clone, Copy)]
 pub struct Credited {
     pub number: u8,
     pub rows: u16,
@@ -57,6 +59,7 @@ pub fn entry_count(log: &[u8]) -> u16
 }
 
 // What entry i says.
+#[tactic(auto, unfolding(crate::specs::Log::entry_at))]
 pub fn entry_at(log: &[u8], i: u16) -> Entry
     ensures { result ≡ entry_at log.now i }
 {
@@ -69,6 +72,7 @@ pub fn entry_at(log: &[u8], i: u16) -> Entry
 }
 
 // 85: a minute above 10,080, or apprentice 0.
+#[tactic(auto, unfolding(crate::specs::Log::bad_entry))]
 fn is_bad(entry: Entry) -> bool
     ensures { result ≡ bad_entry entry }
 {
@@ -79,6 +83,7 @@ fn is_bad(entry: Entry) -> bool
 }
 
 // 85, of entry i.
+#[tactic(auto, unfolding(crate::specs::Log::bad_at))]
 fn bad_at(log: &[u8], i: u16) -> bool
     ensures { result ≡ bad_at log.now i }
 {
@@ -86,6 +91,7 @@ fn bad_at(log: &[u8], i: u16) -> bool
 }
 
 // 85, of the log.
+#[tactic(auto, unfolding(crate::specs::Credited::any_bad))]
 fn any_bad(log: &[u8]) -> bool
     ensures { result ≡ any_bad log.now }
 {
@@ -101,6 +107,7 @@ fn any_bad(log: &[u8]) -> bool
 }
 
 // 83: more than 1,024 entries.
+#[tactic(auto, unfolding(crate::specs::Credited::over_limit))]
 fn over_limit(log: &[u8]) -> bool
     ensures { result ≡ over_limit log.now }
 {
@@ -108,6 +115,7 @@ fn over_limit(log: &[u8]) -> bool
 }
 
 // 84: the length does not fit the count.
+#[tactic(auto, unfolding(crate::specs::Credited::wrong_length))]
 fn wrong_length(log: &[u8]) -> bool
     ensures { result ≡ wrong_length log.now }
 {
@@ -115,6 +123,7 @@ fn wrong_length(log: &[u8]) -> bool
 }
 
 // The number of 80 to 85 that applies, or 0.
+#[tactic(auto, unfolding(crate::specs::Credited::log_number))]
 pub fn log_number(log: &[u8]) -> u8
     ensures { result ≡ log_number log.now }
 {

@@ -1,0 +1,15 @@
+-- The loop's invariant: of the entries below i, those that cover nothing are listed, and n is their number.
+use Prim.Native.Nat.{◌-◌}
+use Rattle.tablet_log.proofs.Listing.{Listed, list_starts, list_goes, list_length, list_ends}
+use borrow.Author.Rules.{rules}
+use Rattle.tablet_log.proofs.list_empty.Goals as goal
+
+pub loop-i-init : goal.loop-i-init
+loop-i-init c =
+    list_starts _ _ _
+
+pub loop-i-preserved : goal.loop-i-preserved
+loop-i-preserved c =
+    let o = c.list_one-n in
+    let l = c.loop-i in
+    list_goes _ _ _ _ _ _ l.invariant _ _ c.loop-i-test.true o.ensures.0 o.ensures.1
