@@ -1,3 +1,5 @@
+#![tactic(auto)]
+
 ghost use Rattle.std.specs.Prelude.{◌≡◌};
 ghost use Rattle.exercise.specs.Exercise.{exercise_number};
 ghost use Rattle.answer.specs.Answer.{opening_number};
@@ -19,7 +21,7 @@ pub struct AnswerReader<'a> {
 }
 
 // What a reader of an exercise gives: the next cell, or that its record breaks the layout, or that there is none.
-#[derive(Drop)]
+#[derive(Clone, Copy)]
 pub enum ExerciseStep {
     Combinational(exercise::CombinationalCell),
     Register(exercise::RegisterCell),
@@ -28,7 +30,7 @@ pub enum ExerciseStep {
 }
 
 // What a reader of an answer gives: the next place, or that its record breaks the layout, or that there is none.
-#[derive(Drop)]
+#[derive(Clone, Copy)]
 pub enum AnswerStep {
     Place(answer::Place),
     Broken,
@@ -50,6 +52,7 @@ pub fn answer_opens(answer: &[u8]) -> u8
 }
 
 // What stands at a number in an exercise.
+#[tactic(auto, unfolding(crate::specs::Reader::exercise_number_at, crate::specs::Reader::exercise_step_at, crate::specs::Reader::exercise_values_at))]
 pub fn exercise_step(exercise: &[u8], at: u16) -> ExerciseStep
     ensures says { result ≡ exercise_step_at exercise.now at }
     ensures number { step_number result ≡ exercise_number_at exercise.now at }
@@ -70,6 +73,7 @@ pub fn exercise_step(exercise: &[u8], at: u16) -> ExerciseStep
 }
 
 // The number of the record to be read after this one: the same at the end, and at a record that breaks its layout.
+#[tactic(auto, unfolding(crate::specs::Reader::next_exercise))]
 pub fn exercise_next(exercise: &[u8], at: u16) -> u16
     ensures { result ≡ next_exercise exercise.now at }
 {
@@ -88,6 +92,7 @@ pub fn exercise_next(exercise: &[u8], at: u16) -> u16
 }
 
 // What stands at a number in an answer.
+#[tactic(auto, unfolding(crate::specs::Reader::answer_number_at, crate::specs::Reader::answer_step_at, crate::specs::Reader::answer_values_at))]
 pub fn answer_step(answer: &[u8], at: u16) -> AnswerStep
     ensures says { result ≡ answer_step_at answer.now at }
     ensures number { place_step_number result ≡ answer_number_at answer.now at }
@@ -102,6 +107,7 @@ pub fn answer_step(answer: &[u8], at: u16) -> AnswerStep
     }
 }
 
+#[tactic(auto, unfolding(crate::specs::Reader::next_answer))]
 pub fn answer_next(answer: &[u8], at: u16) -> u16
     ensures { result ≡ next_answer answer.now at }
 {
