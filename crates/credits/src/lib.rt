@@ -1,3 +1,5 @@
+#![tactic(auto)]
+
 ghost use Rattle.std.specs.Prelude.{◌≡◌, map, ◌+◌, ◌≤◌, ◌<◌, ◌^◌, length, set};
 ghost use Rattle.sheet.specs.Lists.{below};
 ghost use Rattle.tablet_log.specs.Log.{entry_count};
@@ -8,7 +10,7 @@ ghost use Rattle.credits.specs.passes.Tally.{no_tally, begun, added, with_entry,
 use tablet_log::{Credit, Credited, Entry};
 
 // How far a pass over the sorted entries has come: the rows begun, the apprentice of the last one, that person's last closing and minutes so far.
-#[derive(Drop)]
+#[derive(Clone, Copy)]
 struct Tally {
     rows: u16,
     apprentice: u32,
@@ -25,6 +27,7 @@ const NO_TALLY: Tally = Tally {
 };
 
 // The key of entry i.
+#[tactic(auto, unfolding(crate::specs::passes::Keys::key_at))]
 fn key_at(log: &[u8], i: u16) -> u64
     ensures { result ≡ key_at log.now i }
 {
@@ -53,6 +56,7 @@ fn fill_keys(log: &[u8], keys: &mut [u64])
 }
 
 // The keys of the first entries, rising.
+#[tactic(auto, unfolding(crate::specs::passes::Keys::keys_of))]
 fn sort_keys(log: &[u8], keys: &mut [u64])
     requires { length keys.old ≤ 1024 }
     ensures { keys.new ≡ keys_of log.now (length keys.old) }
@@ -71,6 +75,7 @@ fn larger(a: u16, b: u16) -> u16
 }
 
 // Begins a row where the entry is another apprentice's.
+#[tactic(auto, unfolding(crate::specs::passes::Tally::begun))]
 fn begin(t: Tally, entry: Entry) -> Tally
     requires { t.rows < 65535 }
     ensures after { result ≡ begun t entry }
@@ -89,6 +94,7 @@ fn begin(t: Tally, entry: Entry) -> Tally
 }
 
 // Adds the minutes of the apprentice's own entry from the last closing on.
+#[tactic(auto, unfolding(crate::specs::passes::Tally::added))]
 fn add(t: Tally, entry: Entry) -> Tally
     requires { t.minutes < 2 ^ 31 }
     ensures after { result ≡ added t entry }
@@ -143,6 +149,7 @@ fn put_row(rows: &mut [Credit], i: usize, row: Credit)
 }
 
 // Stores the row that the tally is at, where it has begun one.
+#[tactic(auto, unfolding(crate::specs::passes::Tally::stored))]
 fn store_row(rows: &mut [Credit], t: Tally)
     ensures { rows.new ≡ stored rows.old t }
 {

@@ -8,13 +8,12 @@ use mathlib.Core.Bool.{Bool, true, false, cond}
 use mathlib.Core.List.{List}
 use lib.ListN.{length, set, replicate, length-replicate}
 use lib.Seq.{set_out}
-use denote.Enum.Declared.{tag_of, declared}
 use Rattle.sheet.specs.Signal.{is_net, net_of}
 use Rattle.exercise.specs.Record.{is_malformed, outputs}
+use Rattle.exercise.specs.declared.CombinationalCell.{CombinationalCell}
 use Rattle.exercise.specs.declared.RegisterCell.{RegisterCell}
 use Rattle.exercise.specs.declared.Record.{Record}
 use Rattle.exercise.specs.declared.Record.TheVariants.{Combinational, Register, Malformed}
-use Rattle.exercise.specs.contracts.Record.{enum}
 use Rattle.sheet.proofs.Laws.{passes_by, stops_by}
 use Rattle.tables.specs.passes.Tables.{marked_twice, mark_each, double_from}
 
@@ -32,16 +31,8 @@ module _ (t : List ℕ) (s v : ℕ) (b : Bool) (e : b ≡ is_net s) where
 pub ruleset stores = (no_net, stored, past)
 
 -- ---- the kinds of a cell
-pub a_cell : (d : Record) → (tag_of (declared enum) d ≡ 0) ⊎ (tag_of (declared enum) d ≡ 1) → is_malformed d ≡ false
-a_cell (Combinational c) h = refl
-a_cell (Register c) h = refl
-a_cell Malformed h = absurd (⊎_elim (λ e. omega arith) (λ e. omega arith) h)
-
--- what holds of a register and of no cell holds of what is no combinational cell
-pub other_kind : (P : Record → Type 0) → ((c : RegisterCell) → P (Register c)) → P Malformed → (d : Record) → (tag_of (declared enum) d ≡ 1) ⊎ (tag_of (declared enum) d ≡ 2) → P d
-other_kind P r m (Combinational c) h = absurd (⊎_elim (λ e. omega arith) (λ e. omega arith) h)
-other_kind P r m (Register c) h = r c
-other_kind P r m Malformed h = m
+pub a_cell : (d : Record) → ((x : CombinationalCell) × (d ≡ Combinational x)) ⊎ ((x : RegisterCell) × (d ≡ Register x)) → is_malformed d ≡ false
+a_cell d h = ⊎_elim (λ (e : (x : CombinationalCell) × (d ≡ Combinational x)). ap is_malformed e.1) (λ (e : (x : RegisterCell) × (d ≡ Register x)). ap is_malformed e.1) h
 
 -- ---- a pass over the cells that marks what they drive: it has come to cell i with the marks t, and what it finds is the same from here
 pub record Passed (get : ℕ → Record) (n : ℕ) (t : List ℕ) (i : ℕ) : Type 0 where

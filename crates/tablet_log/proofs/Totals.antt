@@ -44,6 +44,7 @@ past b z xs h m q = omega (arith, in_above (suc b) z xs h m)
 total_more : (f g : ℕ → ℕ) (a b : ℕ) (xs : List ℕ) → Above b xs → In a xs → g a ≡ suc (f a)
     → ((z : ℕ) → (z ≡ a → ⊥) → g z ≡ f z) → total g xs ≡ suc (total f xs)
 unfolding total
+total_more f g a b [] h m p q = elim m [ ]
 total_more f g a b (x ∷ xs) h (inl e) p q =
     let rest = total_same g f xs (λ z m. q z (λ w. past x z xs h.1 m (w ∙ e))) in
     rw (← e) (omega (arith, p, rest))
@@ -78,7 +79,7 @@ pairs_total (p ∷ ps) xs h m =
     let own : after a ≡ cond (anyb (same_pair p) ps) (before a) (suc (before a)) =
     rw (eq-eqb a a refl, again p ps) (distinct_cons p.minute (minutes_for a ps)) in
     by_test (anyb (same_pair p) ps)
-    (λ t. rw t (total_same after before xs (λ z n. by_test (eqb z a) (λ u. rw (eqb-true z a u) (own ∙ rw t)) (λ u. other z (eqb-false z a u))) ∙ rest))
+    (λ t. let here : after a ≡ before a = own ∙ rw t in rw t (total_same after before xs (λ z n. by_test (eqb z a) (λ u. ap after (eqb-true z a u) ∙ (here ∙ sym (ap before (eqb-true z a u)))) (λ u. other z (eqb-false z a u))) ∙ rest))
     (λ t. rw t (total_more before after a 0 xs h (m a (inl refl)) (own ∙ rw t) other ∙ ap suc rest))
 
 -- ---- the pairs of the entries
@@ -100,6 +101,7 @@ for_all a (e ∷ es) =
     ∙ rw (for_entry a e.apprentice (minutes_of e), for_all a es) (by_test (is_own a e) (λ t. rw t) (λ t. rw t))
 
 whose : (z : ℕ) (es : List Entry) → In z (map (λ p. p.apprentice) (all_pairs es)) → In z (map (λ e. e.apprentice) es)
+whose z [] m = elim m [ ]
 whose z (e ∷ es) m = ⊎_elim (λ q. inl q) (λ n. inr (whose z es n)) (from_pairs (minutes_of e) m)
   where
     from_pairs : (ms : List ℕ) → In z (map (λ p. p.apprentice) (map (pair e.apprentice) ms ++ all_pairs es))

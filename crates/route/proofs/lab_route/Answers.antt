@@ -18,10 +18,10 @@ returns-then-count-eq0-clause-counted c =
 
 pub returns-then-way-clause-found : goal.returns-then-way-clause-found
 returns-then-way-clause-found c =
-    let search = c.first_way-search in rw c.eight_bytes-bytes.ensures (lab_way c.args.table (need_list c.args.needs) search.result.way search.ensures.0 c.if-way.true)
+    let search = c.first_way-search in rw c.eight_bytes-bytes.ensures (lab_way c.args.table (need_list c.args.needs) search.result.way search.ensures.found c.if-way.true)
 
 pub returns-clause-found : goal.returns-clause-found
 returns-clause-found c =
     let ns = need_list c.args.needs in
     let search = c.first_way-search in
-    lab_no_way ns (earliest_way c.args.table ns) search.result.way search.ensures.0 c.if-way.false
+    lab_no_way ns (earliest_way c.args.table ns) search.result.way search.ensures.found c.if-way.false

@@ -9,11 +9,11 @@ use Rattle.route.proofs.serves_others.Goals as goal
 pub returns-then-serves_other : goal.returns-then-serves_other
 returns-then-serves_other c =
     let a = c.args in
-    later_stops (serves_other a.table (need_at a.t2 a.at) a.e) a.t2 a.n a.at c.loop-i.i c.loop-i.invariant c.loop-i-test.true c.requires.1 c.well_formed.1.0.1.0.1
+    later_stops (serves_other a.table (need_at a.needs a.at) a.e) a.needs a.n a.at c.loop-i.i c.loop-i.invariant c.loop-i-test.true c.requires.1 c.well_formed.1.0.1.0.1
     c.serves_other.result c.serves_other.ensures c.if-serves_other.true
 
 pub loop-i-preserved : goal.loop-i-preserved
 loop-i-preserved c =
     let a = c.args in
-    later_goes (serves_other a.table (need_at a.t2 a.at) a.e) a.t2 a.n a.at c.loop-i.i c.loop-i.invariant c.loop-i-test.true c.requires.1 c.well_formed.1.0.1.0.1
+    later_goes (serves_other a.table (need_at a.needs a.at) a.e) a.needs a.n a.at c.loop-i.i c.loop-i.invariant c.loop-i-test.true c.requires.1 c.well_formed.1.0.1.0.1
     c.serves_other.result c.serves_other.ensures c.if-serves_other.false

@@ -12,4 +12,4 @@ pub loop-i-preserved : goal.loop-i-preserved
 loop-i-preserved c =
     let o = c.list_one-n in
     let l = c.loop-i in
-    list_goes _ _ _ _ _ _ l.invariant _ _ c.loop-i-test.true o.ensures.0 o.ensures.1
+    list_goes _ _ _ _ _ _ l.invariant _ _ c.loop-i-test.true o.ensures.filled o.ensures.written
