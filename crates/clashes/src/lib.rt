@@ -1,3 +1,5 @@
+#![tactic(auto)]
+
 ghost use Rattle.std.specs.Prelude.{◌≡◌, not, ◌<◌};
 ghost use Rattle.sheet.specs.Lists.{first_from};
 ghost use Rattle.placing.specs.Places.{kind_at, same_place, place_taken};
@@ -28,6 +30,7 @@ fn kind_of(exercise: &[u8], i: CellNumber) -> u8
 }
 
 // Two cells of one kind at one x, y and LE.
+#[tactic(auto, unfolding(placing::specs::Places::same_place))]
 fn same_place(exercise: &[u8], answer: &[u8], j: CellNumber, i: CellNumber) -> bool
     ensures { result ≡ same_place exercise.now answer.now j.0 i.0 }
 {
@@ -39,6 +42,7 @@ fn same_place(exercise: &[u8], answer: &[u8], j: CellNumber, i: CellNumber) -> b
 }
 
 // The pairwise scan over places: the lowest cell with a lower cell of its kind at its place, or the number of cells.
+#[tactic(auto, unfolding(placing::specs::Places::place_taken))]
 fn first_clash(exercise: &[u8], answer: &[u8], cells: u16) -> u16
     ensures { result ≡ first_from (place_taken exercise.now answer.now) 0 cells }
 {
@@ -112,6 +116,7 @@ fn free_to(keys: &[u16; 512], cells: u16) -> u16
 }
 
 // The pairwise scan over keys: the lowest cell that has a lower cell's key, or the number of cells.
+#[tactic(auto, unfolding(crate::specs::passes::Keys::key_taken))]
 fn first_taken(keys: &[u16; 512], cells: u16, free: u16) -> u16
     requires keyed { Keyed keys.now cells }
     requires below { FreeTo keys.now cells free }

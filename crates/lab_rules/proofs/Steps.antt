@@ -98,10 +98,9 @@ module _ (k : Counts) (r : RegisterCell) {a b d s e : UpToTwo} where
   register_counted h₁ h₂ h₃ h₄ h₅ = rw (h₁, h₂, h₃, h₄, h₅) refl
 
 -- to a cell that is no register nothing counts
-pub no_register : (k : Counts) (c : Record) → (tag_of the_type c ≡ 0) ⊎ (tag_of the_type c ≡ 2) → k ≡ counts_with k c
+pub no_register : (k : Counts) (c : Record) → ((r : RegisterCell) → c ≡ Register r → ⊥) → k ≡ counts_with k c
 unfolding counts_with with_codes
-no_register k (Register r) (inl h) = absurd (omega arith)
-no_register k (Register r) (inr h) = absurd (omega arith)
+no_register k (Register r) h = absurd (h r refl)
 no_register k (Combinational c) h = refl
 no_register k Malformed h = refl
 

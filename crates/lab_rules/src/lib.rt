@@ -1,3 +1,5 @@
+#![tactic(auto)]
+
 ghost use Rattle.std.specs.Prelude.{◌≡◌, cond, [], ◌∷◌, map};
 ghost use Rattle.sheet.specs.Signal.{VCC, connected, is_net};
 ghost use Rattle.exercise.specs.declared.Record.«TheVariants».{Register};
@@ -17,7 +19,7 @@ pub const MAX_NETS_IN: u16 = 38;
 
 // The control signals of a LAB's registers, distinct, as far as rules 60 to 63 and the needs ask for them.
 // A pair is 65536 * clk + ena, a synchronous one 65536 * sload + sclr; enables are the ena signals that are nets.
-#[derive(Drop)]
+#[derive(Clone, Copy)]
 pub struct Counts {
     pub clocks: UpToTwo,
     pub pairs: UpToTwo,
@@ -27,20 +29,21 @@ pub struct Counts {
 }
 
 // The lowest broken of 60 to 65, or 0 with the LAB's eight route bytes; eight 255s otherwise.
-#[derive(Drop)]
+#[derive(Clone, Copy)]
 pub struct LabResult {
     pub number: u8,
     pub bytes: [u8; 8],
 }
 
 // The result of a LAB, and how many tries the search for its route made: none where it breaks one of 60 to 64.
-#[derive(Drop)]
+#[derive(Clone, Copy)]
 pub struct LabSearch {
     pub result: LabResult,
     pub tries: u32,
 }
 
 // A port's signal counted: a connected one as it is, an unconnected one of a used register as the default.
+#[tactic(auto, unfolding(distinct::specs::passes::UpToTwo::with_codes))]
 fn with_counted(codes: UpToTwo, signal: Signal, default: Signal, used: bool) -> UpToTwo
     ensures { result ≡ with_codes codes (cond (connected signal.0) (signal.0 ∷ []) (cond used (default.0 ∷ []) [])) }
 {
@@ -114,6 +117,7 @@ fn with_synchronous(codes: UpToTwo, sload: Signal, sclr: Signal) -> UpToTwo
 }
 
 // A signal that is a net.
+#[tactic(auto, unfolding(distinct::specs::passes::UpToTwo::with_codes))]
 fn with_net(codes: UpToTwo, signal: Signal) -> UpToTwo
     ensures { result ≡ with_codes codes (cond (is_net signal.0) (signal.0 ∷ []) []) }
 {
@@ -147,6 +151,7 @@ impl Counts {
         self.with_register(register)
     }
 
+    #[tactic(auto, unfolding(crate::specs::Ports::needed))]
     fn with_register(self, cell: RegisterCell) -> Self
         ensures { result ≡ counts_with self (Register cell) }
     {
@@ -167,6 +172,7 @@ impl Counts {
 }
 
 // The lowest of 60 to 64 that the counts and the number of nets in break, or 0.
+#[tactic(auto, unfolding(crate::specs::passes::Counts::broken_by))]
 fn broken_by(counts: Counts, nets: u16) -> u8
     ensures { result ≡ broken_by counts nets }
 {
@@ -189,6 +195,7 @@ fn broken_by(counts: Counts, nets: u16) -> u8
 }
 
 // A need of the role, where the code is a net's.
+#[tactic(auto, unfolding(crate::specs::passes::Counts::with_needs))]
 fn with_code(needs: Needs, role: u8, code: u32) -> Needs
     ensures { result ≡ with_needs needs (needs_of_role role (net_codes (code ∷ []))) }
 {
@@ -205,6 +212,7 @@ fn with_code(needs: Needs, role: u8, code: u32) -> Needs
 }
 
 // Needs of the role for the codes that a counter holds, two at the most.
+#[tactic(auto, unfolding(distinct::specs::passes::UpToTwo::codes_of, crate::specs::passes::Counts::with_needs))]
 fn with_codes(needs: Needs, role: u8, codes: UpToTwo) -> Needs
     ensures { result ≡ with_needs needs (needs_of_role role (net_codes (codes_of codes))) }
 {
@@ -219,6 +227,7 @@ fn with_codes(needs: Needs, role: u8, codes: UpToTwo) -> Needs
 }
 
 // Needs of sclr and sload for the one pair that a counter holds.
+#[tactic(auto, unfolding(crate::specs::passes::Counts::only_code, crate::specs::passes::Counts::with_needs))]
 fn with_only(needs: Needs, pairs: UpToTwo) -> Needs
     ensures { result ≡ with_needs (with_needs needs (needs_of_role SCLR (net_codes (map second (only_code pairs))))) (needs_of_role SLOAD (net_codes (map first (only_code pairs)))) }
 {
@@ -267,6 +276,7 @@ pub fn lab_search(table: EntryTable, counts: Counts, nets: u16) -> LabSearch
 }
 
 // The result alone.
+#[tactic(auto, unfolding(crate::specs::passes::Counts::searched))]
 pub fn lab_result(table: EntryTable, counts: Counts, nets: u16) -> LabResult
     ensures { result ≡ result_from table counts nets }
 {

@@ -1,3 +1,5 @@
+#![tactic(auto)]
+
 ghost use Rattle.std.specs.Prelude.{◌≡◌, ltb};
 ghost use Rattle.sheet.specs.Bytes.{byte_at};
 ghost use Rattle.entries.specs.Table.{ENTRIES, eight_rows};
@@ -21,6 +23,7 @@ pub const MAX_ENTRIES: u8 = 8;
 const ALL_ROLES: u8 = 31;
 
 // The settings sheet of the board of document 01.
+#[tactic(auto, unfolding(crate::specs::House::house_settings))]
 pub fn house_settings() -> [u8; 12]
     ensures { result ≡ house_settings }
 {
@@ -91,6 +94,7 @@ fn too_many_entries(settings: &[u8]) -> bool
     MAX_ENTRIES < entry_count(settings)
 }
 
+#[tactic(auto, unfolding(crate::specs::Settings::wrong_settings_length))]
 fn wrong_settings_length(settings: &[u8]) -> bool
     ensures { result ≡ wrong_settings_length settings.now }
 {
@@ -98,6 +102,7 @@ fn wrong_settings_length(settings: &[u8]) -> bool
 }
 
 // Whether some byte has a flag above the five roles.
+#[tactic(auto, unfolding(crate::specs::Settings::other_flags))]
 pub fn has_other_flags(flags: &[u8]) -> bool
     ensures { result ≡ other_flags flags.now }
 {
@@ -118,6 +123,7 @@ fn unknown_role(settings: &[u8]) -> bool
 }
 
 // The number of 70 to 75 that applies to a settings sheet, or 0.
+#[tactic(auto, unfolding(crate::specs::Settings::settings_number))]
 pub fn settings_number(settings: &[u8]) -> u8
     ensures { result ≡ settings_number settings.now }
 {
@@ -180,6 +186,7 @@ pub fn entry_table(settings: &[u8]) -> EntryTable
 }
 
 // Version, board number and entry count of a settings sheet; zeros where it is refused.
+#[tactic(auto, unfolding(crate::specs::Settings::settings_numbers))]
 pub fn settings_numbers(settings: &[u8]) -> [u16; 3]
     ensures { result ≡ settings_numbers settings.now }
 {
@@ -191,6 +198,7 @@ pub fn settings_numbers(settings: &[u8]) -> [u16; 3]
 }
 
 // The flags of each entry, and 0 past the last; zeros where the sheet is refused.
+#[tactic(auto, unfolding(crate::specs::Settings::settings_entries))]
 pub fn settings_entries(settings: &[u8]) -> [u8; 8]
     ensures { result ≡ settings_entries settings.now }
 {

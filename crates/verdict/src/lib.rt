@@ -1,3 +1,5 @@
+#![tactic(auto)]
+
 ghost use Rattle.std.specs.Prelude.{◌≡◌, cond, min, length, eqb};
 ghost use Rattle.sheet.specs.Lists.{elemb};
 ghost use Rattle.sheet.specs.Bytes.{begins_at};
@@ -9,7 +11,7 @@ ghost use Rattle.verdict.specs.Verdicts.{of_exercise, of_answer, apprentice_of, 
 use sheet::{CellNumber, NONE};
 
 // Where the fault of a number lies: in the call or its settings sheet (or there is none), or in that part of exercise or answer.
-#[derive(Drop)]
+#[derive(Clone, Copy)]
 pub enum Fault {
     Call,
     ExerciseHead,
@@ -43,7 +45,7 @@ const NAMELESS_NUMBERS: [u8; 19] = [
 const SEARCHED_NUMBERS: [u8; 2] = [0, 65];
 
 // What a stage finds: a number of document 01, or 0, with the cell and the LAB, or 65,535.
-#[derive(Drop)]
+#[derive(Clone, Copy)]
 pub struct Finding {
     pub number: u8,
     pub cell: u16,
@@ -51,7 +53,7 @@ pub struct Finding {
 }
 
 // A part of the exercise or of the answer.
-#[derive(Drop)]
+#[derive(Clone, Copy)]
 pub struct Part {
     pub of_answer: bool,
     pub start: usize,
@@ -59,7 +61,7 @@ pub struct Part {
 }
 
 // The verdict: the culprit is a part of the exercise or of the answer.
-#[derive(Drop)]
+#[derive(Clone, Copy)]
 pub struct Verdict {
     pub number: u8,
     pub cell: u16,
@@ -83,6 +85,7 @@ fn is_among(number: u8, list: &[u8]) -> bool
 }
 
 // The apprentice: 0 for 1 to 23 (3 is among these) and 70 to 75, else the answer sheet's.
+#[tactic(auto, unfolding(crate::specs::Verdicts::apprentice_of))]
 pub fn apprentice_for(answer: &[u8], number: u8) -> u32
     ensures { result ≡ apprentice_of answer.now number }
 {
@@ -133,6 +136,7 @@ fn place_of(cell: CellNumber) -> Part
 }
 
 // Where the fault of a number lies.
+#[tactic(auto, unfolding(crate::specs::Numbers::fault_of))]
 fn fault_of(number: u8) -> Fault
     ensures { result ≡ fault_of number }
 {
@@ -205,6 +209,7 @@ pub fn verdict_of(exercise: &[u8], answer: &[u8], f: Finding) -> Verdict
 }
 
 // The part of the sheets that a Part names.
+#[tactic(auto, unfolding(crate::specs::Verdicts::bytes_of))]
 pub fn part_of<'a>(exercise: &'a [u8], answer: &'a [u8], p: Part) -> &'a [u8]
     ensures bytes { result.now ≡ bytes_of exercise.now answer.now p }
     ensures place { result.ref_ptr ≡ cond p.of_answer (begins_at answer.entry.ref_ptr (min p.start (length answer.now))) (begins_at exercise.entry.ref_ptr (min p.start (length exercise.now))) }

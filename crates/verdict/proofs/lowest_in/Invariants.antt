@@ -1,0 +1,11 @@
+-- The loop's invariant: no cell below i stands in the LAB.
+use Rattle.verdict.proofs.Steps.{Lowest, lowest_steps}
+use Prim.Native.Nat.{◌-◌}
+use borrow.Author.Rules.{rules}
+use Rattle.verdict.proofs.lowest_in.Given as goal
+
+abbrev pub invariant-loop-i : goal.invariant-loop-i
+invariant-loop-i l = Lowest l.answer l.cells l.lab l.i
+
+abbrev pub decreases-loop-i : goal.decreases-loop-i
+decreases-loop-i l = l.cells - l.i
