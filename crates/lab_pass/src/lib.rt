@@ -1,3 +1,5 @@
+#![tactic(auto)]
+
 ghost use Rattle.std.specs.Prelude.{◌≡◌, cond, map, ◌+◌, ◌<◌, length, get_or, set, leb, ltb};
 ghost use Rattle.lab_rules.specs.Rules.{MAX_NETS_IN};
 ghost use Rattle.exercise.specs.passes.Known.{known_at};
@@ -17,14 +19,14 @@ use sheet::CellNumber;
 pub const LABS: u16 = 1024;
 
 // The lowest LAB that breaks one of 60 to 65 and the number, or 1,024 and 0.
-#[derive(Drop)]
+#[derive(Clone, Copy)]
 pub struct LowestBroken {
     pub lab: u16,
     pub number: u8,
 }
 
 // The counts of a LAB's registers and its number of nets in.
-#[derive(Drop)]
+#[derive(Clone, Copy)]
 struct Counted {
     counts: Counts,
     nets: u16,
@@ -43,6 +45,7 @@ pub fn link_cells(answer: &[u8], cells: u16, first: &mut [u16], next: &mut [u16]
 }
 
 // Puts a cell in front of its LAB's list.
+#[tactic(auto, unfolding(crate::specs::passes::Links::link))]
 fn link(answer: &[u8], i: CellNumber, first: &mut [u16], next: &mut [u16])
     ensures firsts { first.exit.now ≡ (link answer.now (record { first = first.entry.now; next = next.old }) i.0).first }
     ensures nexts { next.new ≡ (link answer.now (record { first = first.entry.now; next = next.old }) i.0).next }
@@ -88,6 +91,7 @@ fn is_short(next: &[u16], start: u16) -> bool
 }
 
 // The two marks of a LAB, higher than those of the LABs below it.
+#[tactic(auto, unfolding(crate::specs::passes::Results::marks_of))]
 fn marks_of(lab: u16) -> LabMarks
     requires { lab < 1024 }
     ensures { result ≡ marks_of lab }
@@ -174,6 +178,7 @@ fn counted_from(
 }
 
 // Whether all counters hold the same.
+#[tactic(auto, unfolding(crate::specs::passes::Results::same_counts))]
 fn same_counts(a: Counts, b: Counts) -> bool
     ensures { result ≡ same_counts a b }
 {
@@ -185,6 +190,7 @@ fn same_counts(a: Counts, b: Counts) -> bool
 }
 
 // Whether the counts and the nets in are those.
+#[tactic(auto, unfolding(crate::specs::passes::Results::same_counted))]
 fn same_counted(a: Counted, b: Counted) -> bool
     ensures { result ≡ same_counted a b }
 {
@@ -204,6 +210,7 @@ fn solve(table: EntryTable, counted: Counted, previous: Counted, known: LabSearc
 }
 
 // Puts a LAB's eight route bytes into the rows.
+#[tactic(auto, unfolding(crate::specs::passes::Results::put_row))]
 fn put_row(rows: &mut [u8; 8192], lab: u16, bytes: [u8; 8])
     requires { lab < 1024 }
     ensures { rows.new ≡ put_row rows.old lab bytes }

@@ -1,3 +1,5 @@
+#![tactic(auto)]
+
 ghost use Rattle.std.specs.Prelude.{◌≡◌, [], ◌∷◌, ◌+◌, ◌*◌, ◌≤◌, ◌<◌, ◌^◌, length, ltb};
 ghost use Rattle.std.proofs.lemmas.List.Edits.{sets};
 ghost use Rattle.sheet.specs.Lists.{concat_map, anyb, below};
@@ -30,7 +32,7 @@ const MAX_RECORDS: usize = MAX_CELLS as usize;
 const LONGEST_EXERCISE: usize = EXERCISE_HEADER + RECORD_SIZE * MAX_RECORDS;
 
 // What a writer answers: a refusal's number and length 0, or number 0 and the length of the sheet.
-#[derive(Drop)]
+#[derive(Clone, Copy)]
 pub struct Written {
     pub number: u8,
     pub length: usize,
@@ -57,6 +59,7 @@ fn put_u32(to: &mut [u8], at: usize, n: u32)
 }
 
 // Stores the mark with this third letter, and a version.
+#[tactic(auto, unfolding(crate::specs::passes::Put::mark_bytes))]
 fn put_mark(to: &mut [u8], third: u8, version: u16)
     requires { 5 ≤ length to.old }
     ensures { to.new ≡ sets to.old 0 (mark_bytes third version) }
@@ -68,6 +71,7 @@ fn put_mark(to: &mut [u8], third: u8, version: u16)
 }
 
 // Stores a cell's record.
+#[tactic(auto, unfolding(exercise::specs::Record::record_bytes))]
 fn put_record(to: &mut [u8], at: usize, cell: Cell)
     requires { at + 24 ≤ length to.old }
     ensures { to.new ≡ sets to.old at (record_bytes cell) }
@@ -92,6 +96,7 @@ fn put_records(to: &mut [u8], cells: &[Cell])
 }
 
 // Stores the exercise's head.
+#[tactic(auto, unfolding(crate::specs::Exercises::exercise_head, crate::specs::passes::Put::mark_bytes))]
 fn put_exercise_head(to: &mut [u8], nets: u16, total: u16)
     requires { 9 ≤ length to.old }
     ensures { to.new ≡ sets to.old 0 (exercise_head nets total) }
@@ -102,6 +107,7 @@ fn put_exercise_head(to: &mut [u8], nets: u16, total: u16)
 }
 
 // Stores an exercise sheet.
+#[tactic(auto, unfolding(crate::specs::Exercises::exercise_head, crate::specs::Exercises::exercise_sheet))]
 fn put_exercise(to: &mut [u8], nets: u16, cells: &[Cell])
     requires { (record_start (length cells.now) ≤ length to.old) × (length cells.now ≤ 512) }
     ensures { to.new ≡ sets to.old 0 (exercise_sheet (netlist nets cells.now)) }
@@ -149,6 +155,7 @@ fn too_short(room: usize, head: usize, each: usize, total: usize) -> bool
 }
 
 // The number that refuses an exercise, or 0.
+#[tactic(auto, unfolding(crate::specs::Exercises::exercise_refusal, crate::specs::Exercises::records_number))]
 fn exercise_refusal(nets: u16, cells: &[Cell], room: usize) -> u8
     ensures { result ≡ exercise_refusal (netlist nets cells.now) room }
 {
@@ -181,6 +188,7 @@ pub fn write_exercise(nets: u16, cells: &[Cell], out: &mut [u8]) -> Written
 }
 
 // Stores a place's record.
+#[tactic(auto, unfolding(crate::specs::passes::Put::cut_bytes))]
 fn put_place(to: &mut [u8], at: usize, place: CellPlace)
     requires { at + 4 ≤ length to.old }
     ensures { to.new ≡ sets to.old at (cut_bytes place) }
@@ -204,6 +212,7 @@ fn put_places(to: &mut [u8], places: &[CellPlace])
 }
 
 // Stores the answer's head.
+#[tactic(auto, unfolding(crate::specs::Answers::answer_head, crate::specs::passes::Put::mark_bytes))]
 fn put_answer_head(to: &mut [u8], apprentice: u32, total: u16)
     requires { 11 ≤ length to.old }
     ensures { to.new ≡ sets to.old 0 (answer_head apprentice total) }
@@ -214,6 +223,7 @@ fn put_answer_head(to: &mut [u8], apprentice: u32, total: u16)
 }
 
 // Stores an answer sheet.
+#[tactic(auto, unfolding(crate::specs::Answers::answer_head, crate::specs::passes::Put::cut_sheet))]
 fn put_answer(to: &mut [u8], apprentice: u32, places: &[CellPlace])
     requires { (place_start (length places.now) ≤ length to.old) × (length places.now ≤ 512) }
     ensures { to.new ≡ sets to.old 0 (cut_sheet (placement apprentice places.now)) }
@@ -223,6 +233,7 @@ fn put_answer(to: &mut [u8], apprentice: u32, places: &[CellPlace])
 }
 
 // Whether a place is out of range.
+#[tactic(auto, unfolding(crate::specs::passes::Put::off_board))]
 fn is_off_board(place: CellPlace) -> bool
     ensures { result ≡ off_board place }
 {
@@ -247,6 +258,7 @@ fn some_off_board(places: &[CellPlace]) -> bool
 }
 
 // The number that refuses an answer, or 0.
+#[tactic(auto, unfolding(crate::specs::Answers::answer_refusal))]
 fn answer_refusal(apprentice: u32, places: &[CellPlace], room: usize) -> u8
     ensures { result ≡ answer_refusal (placement apprentice places.now) room }
 {
@@ -282,6 +294,7 @@ pub fn write_answer(apprentice: u32, places: &[CellPlace], out: &mut [u8]) -> Wr
 }
 
 // Whether 72 refuses a version and a board's number.
+#[tactic(auto, unfolding(crate::specs::Boards::wrong_board))]
 fn is_wrong_board(version: u16, number: u16) -> bool
     ensures { result ≡ wrong_board version number }
 {
@@ -322,6 +335,7 @@ fn settings_refusal(version: u16, number: u16, entries: &[u8], room: usize) -> u
 }
 
 // Stores the head of a settings sheet.
+#[tactic(auto, unfolding(crate::specs::passes::Put::mark_bytes))]
 fn put_settings_head(to: &mut [u8], version: u16, number: u16, total: u8)
     requires { head_of version ≤ length to.old }
     ensures { to.new ≡ sets to.old 0 (settings_head version number total) }
@@ -346,6 +360,7 @@ fn put_entries(to: &mut [u8], at: usize, entries: &[u8])
 }
 
 // Stores a settings sheet.
+#[tactic(auto, unfolding(crate::specs::Boards::settings_sheet))]
 fn put_settings(to: &mut [u8], version: u16, number: u16, entries: &[u8])
     requires { (head_of version + length entries.now ≤ length to.old) × (length entries.now ≤ 8) }
     ensures { to.new ≡ sets to.old 0 (settings_sheet (board version number entries.now)) }
