@@ -1,45 +1,54 @@
 // Judges one of the samples for each number, NN.lxe and NN.lxa for the number NN, on the board of NN.lxt, where it is there, otherwise on that
 // of document 01, and writes what the judge hands back: number, cell, LAB, apprentice and the culprit's bytes.
-ghost use Rattle.std.specs.Prelude.{◌<◌, ◌≤◌};
-ghost use Rattle.io.specs.Counts.{IsPrefixLen};
+#![tactic(auto)]
 
-use libc::STDOUT_FILENO;
+ghost use Rattle.std.specs.Prelude.{◌≡◌, ◌<◌, ◌≤◌, length};
+
+use std::io::Read;
+use std::rt::Files;
+use std::{fs, io, str};
 
 // Room for the largest sheet of these cases.
 const SHEET_ROOM: usize = 512;
 
-fn word(text: &[u8]) {
-    io::write_all(STDOUT_FILENO, text);
-}
-
-fn number(n: u64) {
-    io::write_all(STDOUT_FILENO, b" ");
-    io::print_decimal(STDOUT_FILENO, n);
+// Reads until buf is full, the input ends or a read fails, and answers how many bytes came.
+fn fill(input: &mut impl Read, buf: &mut [u8]) -> usize
+    ensures in_bounds { result ≤ length buf.new }
+    ensures len { length buf.new ≡ length buf.old }
+{
+    let mut done = 0;
+    while done < buf.len() {
+        match input.read(&mut buf[done..]) {
+            Ok(0) | Err(_) => break,
+            Ok(n) => done += n,
+        }
+    }
+    done
 }
 
 // Fills buf with a case's sheet, whose name ends in this letter, and answers how many bytes came: none where it is missing.
-fn read_sheet(case: u8, letter: u8, buf: &mut [u8]) -> usize
+fn read_sheet(rt: &impl Files, case: u8, letter: u8, buf: &mut [u8]) -> usize
     requires { case < 100 }
-    ensures { IsPrefixLen result buf.new }
+    ensures in_bounds { result ≤ length buf.new }
+    ensures len { length buf.new ≡ length buf.old }
 {
     let tens = b'0' + case / 10;
     let ones = b'0' + case % 10;
     let path = [tens, ones, b'.', b'l', b'x', letter];
-    let fd = os::open_read(&path);
-    if fd < 0 {
+    let Ok(path) = str::from_utf8(&path) else {
         return 0;
+    };
+    match fs::open(rt, path) {
+        Ok(mut file) => fill(&mut file, buf),
+        Err(_) => 0,
     }
-    let n = io::read_full(fd, buf);
-    libc::close(fd);
-    n
 }
 
-fn bytes(part: &[u8]) {
-    let mut i = 0;
-    while i < part.len() {
-        number(sheet::byte_at(part, i) as u64);
-        i += 1;
+fn bytes(rt: &impl Print, part: &[u8]) -> io::Result<()> {
+    for byte in part {
+        print!(rt; " {byte}")?;
     }
+    Ok(())
 }
 
 // The length of a case's route buffer: a byte short for number 1.
@@ -62,20 +71,22 @@ fn slots_for(case: u8) -> usize
     judge::TRIES_SIZE
 }
 
-fn verdict(numbers: [u32; 4]) {
-    word(b"verdict");
-    number(numbers[0] as u64);
-    word(b" cell");
-    number(numbers[1] as u64);
-    word(b" lab");
-    number(numbers[2] as u64);
-    word(b" apprentice");
-    number(numbers[3] as u64);
+fn verdict(rt: &impl Print, numbers: [u32; 4]) -> io::Result<()> {
+    let [number, cell, lab, apprentice] = numbers;
+    print!(rt; "verdict {number} cell {cell} lab {lab} apprentice {apprentice}")
 }
 
 // A line with what the judge hands back.
-fn show<'a>(settings: &[u8], exercise: &'a [u8], answer: &'a [u8], room: usize, slots: usize)
-    requires { (room ≤ 8192) × (slots ≤ 1024) }
+fn show<'a>(
+    rt: &impl Print,
+    settings: &[u8],
+    exercise: &'a [u8],
+    answer: &'a [u8],
+    room: usize,
+    slots: usize,
+) -> io::Result<()>
+    requires room { room ≤ 8192 }
+    requires slots { slots ≤ 1024 }
 {
     let mut route = [255u8; judge::ROUTE_SIZE];
     let mut tries = [0u32; judge::TRIES_SIZE];
@@ -88,49 +99,49 @@ fn show<'a>(settings: &[u8], exercise: &'a [u8], answer: &'a [u8], room: usize, 
         &mut tries[..slots],
         &mut numbers,
     );
-    verdict(numbers);
-    word(b" culprit");
-    bytes(culprit);
-    word(b"\n");
+    verdict(rt, numbers)?;
+    print!(rt; " culprit")?;
+    bytes(rt, culprit)?;
+    println!(rt; "")
 }
 
 // The line of a case, none where there is no such case.
-fn run(case: u8)
+fn run(rt: &(impl Files + Print), case: u8) -> io::Result<()>
     requires { case < 100 }
 {
     let mut exercise = [0u8; SHEET_ROOM];
     let mut answer = [0u8; SHEET_ROOM];
-    let n = read_sheet(case, b'e', &mut exercise);
-    let m = read_sheet(case, b'a', &mut answer);
+    let n = read_sheet(rt, case, b'e', &mut exercise);
+    let m = read_sheet(rt, case, b'a', &mut answer);
     if n == 0 {
-        return;
+        return Ok(());
     }
     let mut settings = [0u8; SHEET_ROOM];
-    let k = read_sheet(case, b't', &mut settings);
+    let k = read_sheet(rt, case, b't', &mut settings);
     if k == 0 {
         let house = settings::house_settings();
-        show(
+        return show(
+            rt,
             &house,
             &exercise[..n],
             &answer[..m],
             room_for(case),
             slots_for(case),
         );
-        return;
     }
     show(
+        rt,
         &settings[..k],
         &exercise[..n],
         &answer[..m],
         room_for(case),
         slots_for(case),
-    );
+    )
 }
 
-fn main() {
-    let mut case: u8 = 0;
-    while case < 76 {
-        run(case);
-        case += 1;
+fn main(rt: HostRuntime) -> io::Result<()> {
+    for case in 0u8..76 {
+        run(&rt, case)?;
     }
+    Ok(())
 }

@@ -1,56 +1,43 @@
 // Runs what no caller from C reaches: the inverse of signals, and decoders on parts of another size. A line a case.
+#![tactic(auto)]
+
 use answer::Placed;
 use exercise::Record;
-use libc::STDOUT_FILENO;
 use sheet::Signal;
+use std::io;
 
-fn word(text: &[u8]) {
-    io::write_all(STDOUT_FILENO, text);
-}
-
-fn number(n: u64) {
-    io::write_all(STDOUT_FILENO, b" ");
-    io::print_decimal(STDOUT_FILENO, n);
-}
-
-fn inverse_case(code: u16) {
-    word(b"inverse of");
-    number(code as u64);
-    word(b" is");
-    number(Signal(code).inverse().0 as u64);
-    word(b"\n");
+fn inverse_case(rt: &impl Print, code: u16) -> io::Result<()> {
+    let inverse = Signal(code).inverse().0;
+    println!(rt; "inverse of {code} is {inverse}")
 }
 
 // The first size bytes of a record, and of a place, that keep the layout where they have 24 and 4.
-fn size_case(size: usize) {
+fn size_case(rt: &impl Print, size: usize) -> io::Result<()> {
     let mut bytes = [0u8; 25];
     bytes[0] = 1;
-    word(b"part of");
-    number(size as u64);
-    let Record::Malformed = exercise::decode_record(sheet::part(&bytes, 0, size), 4) else {
-        word(b" is a record\n");
-        return;
+    let part = sheet::part(&bytes, 0, size);
+    let Record::Malformed = exercise::decode_record(part, 4) else {
+        return println!(rt; "part of {size} is a record");
     };
-    let Placed::OutOfRange = answer::decode_place(sheet::part(&bytes, 0, size)) else {
-        word(b" is a place\n");
-        return;
+    let Placed::OutOfRange = answer::decode_place(part) else {
+        return println!(rt; "part of {size} is a place");
     };
-    word(b" is neither\n");
+    println!(rt; "part of {size} is neither")
 }
 
-fn main() {
-    inverse_case(Signal::UNCONNECTED.0);
-    inverse_case(Signal::GND.0);
-    inverse_case(Signal::VCC.0);
-    inverse_case(3);
-    inverse_case(4);
-    inverse_case(5);
-    inverse_case(65534);
-    inverse_case(65535);
-    size_case(3);
-    size_case(4);
-    size_case(5);
-    size_case(23);
-    size_case(24);
-    size_case(25);
+fn main(rt: HostRuntime) -> io::Result<()> {
+    inverse_case(&rt, Signal::UNCONNECTED.0)?;
+    inverse_case(&rt, Signal::GND.0)?;
+    inverse_case(&rt, Signal::VCC.0)?;
+    inverse_case(&rt, 3)?;
+    inverse_case(&rt, 4)?;
+    inverse_case(&rt, 5)?;
+    inverse_case(&rt, 65534)?;
+    inverse_case(&rt, 65535)?;
+    size_case(&rt, 3)?;
+    size_case(&rt, 4)?;
+    size_case(&rt, 5)?;
+    size_case(&rt, 23)?;
+    size_case(&rt, 24)?;
+    size_case(&rt, 25)
 }
