@@ -28,9 +28,9 @@ pub loop-k-preserved-in_default : goal.loop-k-preserved-in_default
 loop-k-preserved-in_default c =
     (
       take_goes _ _ 512 _ _ _ _ _ _ _ c.loop-k.k c.loop-k.invariant.0 _ _ _ _ (omega (arith, c.loop-k-test.true)) c.if-next-at.false
-          c.known_record_at-cell.ensures (no_register _ _ c.in_default.keys2) c.mark_if-nets.ensures c.entry-at.ensures,
+          c.known_record_at-cell.ensures (no_register _ _ c.in_default.not-Register) c.mark_if-nets.ensures c.entry-at.ensures,
       omega arith,
-      c.mark_if-nets.auto.1.0 ∙ c.loop-k.invariant.2,
+      c.mark_if-nets.auto.marks ∙ c.loop-k.invariant.2,
     )
 
 pub loop-k-preserved : goal.loop-k-preserved
@@ -39,7 +39,7 @@ loop-k-preserved c =
       take_goes _ _ 512 _ _ _ _ _ _ _ c.loop-k.k c.loop-k.invariant.0 _ _ _ _ (omega (arith, c.loop-k-test.true)) c.if-next-at.false
           c.known_record_at-cell.ensures c.with-counts.ensures c.mark_if-nets.ensures c.entry-at.ensures,
       omega arith,
-      c.mark_if-nets.auto.1.0 ∙ c.loop-k.invariant.2,
+      c.mark_if-nets.auto.marks ∙ c.loop-k.invariant.2,
     )
 
 pub returns-clause-counted : goal.returns-clause-counted
