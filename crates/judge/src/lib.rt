@@ -1,3 +1,5 @@
+#![tactic(auto)]
+
 ghost use Rattle.std.specs.Prelude.{◌≡◌, cond, ◌++◌, map, length, replicate, eqb, ltb};
 ghost use Rattle.sheet.specs.Lists.{elemb, below};
 ghost use Rattle.exercise.specs.Exercise.{cell_count};
@@ -24,7 +26,7 @@ pub const ROUTE_SIZE: usize = 8192;
 pub const TRIES_SIZE: usize = 1024;
 
 // What a settings sheet and an exercise alone say of every answer: what 70 to 75 and 10 to 16 find, and what these and 30 to 44 find.
-#[derive(Drop)]
+#[derive(Clone, Copy)]
 pub struct Prepared {
     pub early: Finding,
     pub fixed: Finding,
