@@ -1,3 +1,5 @@
+#![tactic(auto)]
+
 ghost use Rattle.std.specs.Prelude.{◌≡◌, map, ◌+◌, ◌<◌, ◌≤◌, ◌^◌, length, set, ltb};
 ghost use Rattle.std.proofs.lemmas.List.Edits.{sets};
 ghost use Rattle.sheet.specs.Lists.{below};
@@ -20,7 +22,7 @@ const HEADER: usize = 7;
 pub type Row = [u32; 4];
 
 // What a call says: 0 and how many rows are filled, or a refusal and 0.
-#[derive(Drop)]
+#[derive(Clone, Copy)]
 pub struct Marked {
     pub number: u8,
     pub filled: u16,
@@ -77,6 +79,7 @@ fn too_few_rows(class: &[u8], rows: usize) -> bool
 }
 
 // 76 or 77, or 0.
+#[tactic(auto, unfolding(crate::specs::Class::refusal))]
 fn refusal(class: &[u8], rows: usize) -> u8
     ensures { result ≡ refusal class.now rows }
 {

@@ -1,3 +1,5 @@
+#![tactic(auto)]
+
 ghost use Rattle.std.specs.Prelude.{◌≡◌};
 ghost use Rattle.exercise.specs.Record.{record_bytes};
 ghost use Rattle.lab_rules.specs.passes.Counts.{refused};
@@ -9,7 +11,7 @@ use exercise::{Cell, Record};
 use lab_rules::{Counts, LabResult};
 
 // What is kept of a list's records: whether all were fit, and what the LAB's rules count.
-#[derive(Drop)]
+#[derive(Clone, Copy)]
 pub struct ListState {
     pub fit: bool,
     pub counts: Counts,
@@ -17,6 +19,7 @@ pub struct ListState {
 }
 
 // The 24 bytes of a record.
+#[tactic(auto, unfolding(exercise::specs::Record::record_bytes))]
 fn bytes_of(cell: Cell) -> [u8; 24]
     ensures { result ≡ record_bytes cell }
 {
@@ -49,6 +52,7 @@ fn bytes_of(cell: Cell) -> [u8; 24]
 }
 
 // What a record says, at 1,024 nets.
+#[tactic(auto, unfolding(crate::specs::ListCheck::record_from))]
 fn record_from(cell: Cell) -> Record
     ensures { result ≡ record_from cell }
 {
@@ -57,6 +61,7 @@ fn record_from(cell: Cell) -> Record
 }
 
 // Whether a record breaks the layout or one of 30 to 35.
+#[tactic(auto, unfolding(crate::specs::ListCheck::unfit))]
 fn is_unfit(cell: Record) -> bool
     ensures { result ≡ unfit cell }
 {
@@ -68,6 +73,7 @@ fn is_unfit(cell: Record) -> bool
 }
 
 // Before the first record.
+#[tactic(auto, unfolding(crate::specs::passes::State::no_state))]
 fn start() -> ListState
     ensures { result ≡ no_state }
 {
@@ -101,6 +107,7 @@ fn refusal(number: u8) -> LabResult
 }
 
 // After the last record: 18 where one was unfit, 70 to 75 of the settings sheet, otherwise the result of a LAB of its board.
+#[tactic(auto, unfolding(crate::specs::passes::State::finished))]
 fn finish(settings: &[u8], state: ListState) -> LabResult
     ensures { result ≡ finished settings.now state }
 {

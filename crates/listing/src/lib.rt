@@ -1,3 +1,5 @@
+#![tactic(auto)]
+
 ghost use Rattle.std.specs.Prelude.{◌≡◌, [], ◌∷◌, ◌++◌, ◌+◌, ◌≤◌, length};
 ghost use Rattle.listing.specs.Text.{ascii, decimal, overwrite, MOST};
 ghost use Rattle.listing.specs.passes.Writes.{Fits, Writes};
@@ -53,6 +55,7 @@ fn write_decimal(out: &mut [u8], at: usize, n: u32) -> usize
 }
 
 // Writes a number, or a dash for the one that says there is none.
+#[tactic(auto, unfolding(crate::specs::Listing::or_dash))]
 fn write_or_dash(out: &mut [u8], at: usize, none: u32, n: u32) -> usize
     requires { Fits at 10 }
     ensures { Writes out.old at (or_dash none n) 10 out.new result }
@@ -127,6 +130,7 @@ fn lab_line(out: &mut [u8], at: usize, lab: u16, bytes: [u8; 8]) -> usize
 }
 
 // The eight bytes of a LAB in the route buffer.
+#[tactic(auto, unfolding(crate::specs::passes::Marks::row_at))]
 fn row(route: &[u8], lab: u16) -> [u8; 8]
     ensures { result ≡ row_at route.now lab }
 {
