@@ -1,3 +1,5 @@
+#![tactic(auto)]
+
 ghost use Rattle.std.specs.Prelude.{◌≡◌, cond, ◌+◌, ◌*◌, length};
 ghost use Rattle.settings.specs.Settings.{settings_number, settings_numbers, settings_entries};
 ghost use Rattle.settings.specs.House.{house_settings};
