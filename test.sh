@@ -1,5 +1,5 @@
 #!/usr/bin/env bash
-# Passes all tests: the layout of every source file, rt's own gate over every crate of crates.txt, then the tests that stand outside
+# Passes all tests: rt's own gate over every crate of crates.txt, which must try every must-fail edit, then the tests that stand outside
 # Rattle (tests/*/run). The last line is rt's 'N passed, M failed'; the exit status is 0 only where everything passed.
 set -u
 cd "$(dirname "$0")" || exit 2
@@ -8,16 +8,10 @@ for tool in rt rustc cc python3 nm flock; do
   command -v "$tool" > /dev/null || { echo "test.sh: $tool is not on the PATH" >&2; exit 2; }
 done
 
-rt fmt --check || { echo "test.sh: run 'rt fmt'"; exit 1; }
-
-# Temporary files in memory, where there is room: each check copies what it stands on there, thousands of files.
-room=$(df -Pk /dev/shm 2> /dev/null | awk 'NR == 2 { print $4 }')
-[ -n "${TMPDIR-}" ] || [ "${room:-0}" -lt 4000000 ] || export TMPDIR=/dev/shm
-TMPDIR=$(mktemp -d) && chmod 755 "$TMPDIR" || exit 2
-export TMPDIR
+work=$(mktemp -d) || exit 2
 row=
-trap '[ -z "$row" ] || kill -- "-$row" 2> /dev/null; wait; rm -rf "$TMPDIR"' EXIT
-log=$TMPDIR/log
+trap '[ -z "$row" ] || kill -- "-$row" 2> /dev/null; wait; rm -rf "$work"' EXIT
+log=$work/log
 
 rt ci 2>&1 | tee "$log"
 [ "${PIPESTATUS[0]}" -eq 0 ] || exit 1
@@ -26,8 +20,19 @@ case $verdict in
   *" passed, 0 failed") ;;
   *) exit 1 ;;
 esac
+# rt passes an edit that can't be applied or read; here it fails.
+told=$(tail -n 2 "$log" | head -n 1)
+case $told in
+  'rt: ok;'*) ;;
+  *) echo "test.sh: rt does not say that all is well" >&2; exit 1 ;;
+esac
+[[ ! $told =~ \;\ must-fail\ edits:[^\;]*[,\ ]([0-9]+)\ bad ]] || [ "${BASH_REMATCH[1]}" -eq 0 ] ||
+  { echo "test.sh: must-fail edits that were not tried: ${BASH_REMATCH[1]}" >&2; exit 1; }
 
-rt staticlib c_api > "$log" 2>&1 || { tail -n 20 "$log"; echo "test.sh: the C library was not built"; exit 1; }
+# The program, and the C library as an archive and as a shared object, are built before the tests that use them begin.
+for words in 'judge samples/listing' 'minutes samples/minutes-class'; do
+  ./nurimkkot $words > "$log" || { echo "test.sh: ./nurimkkot $words failed"; exit 1; }
+done
 
 # python3 itself, where what is found first is a script that looks for it and takes longer than it does to start.
 PATH=$(dirname "$(python3 -c 'import sys; print(sys.executable)')"):$PATH

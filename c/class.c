@@ -1,7 +1,7 @@
 /* Marks the answers on a class sheet and prints a line for each; where the class sheet is none, prints number 76. The board is that of the
  * settings sheet in a third file or, where none is given, that of document 01.
  *
- *     cc -o class c/class.c target/staticlib/libc_api.a && ./class [--settings settings.lxt] exercise.lxe class.lxc */
+ *     cc -o class c/class.c crates/c_api/out/libc_api.a && ./class [--settings settings.lxt] exercise.lxe class.lxc */
 #include "nurimkkot.h"
 #include "sheet_files.h"
 

@@ -1,7 +1,7 @@
 /* Judges two files and prints the verdict, the culprit and, for a legal answer, the route of every occupied LAB. The board is that of the
  * settings sheet in a third file or, where none is given, that of document 01.
  *
- *     cc -o example c/example.c target/staticlib/libc_api.a && ./example [--settings settings.lxt] exercise.lxe answer.lxa */
+ *     cc -o example c/example.c crates/c_api/out/libc_api.a && ./example [--settings settings.lxt] exercise.lxe answer.lxa */
 #include "nurimkkot.h"
 #include "sheet_files.h"
 

@@ -2,7 +2,7 @@
  * number and no LAB. Rules 16 and 40 to 51 are not asked here, and a cell that breaks one of 30 to 35 gives its LAB number 18. The board is
  * that of the settings sheet in a third file or, where none is given, that of document 01.
  *
- *     cc -o labs c/labs.c target/staticlib/libc_api.a && ./labs [--settings settings.lxt] exercise.lxe answer.lxa */
+ *     cc -o labs c/labs.c crates/c_api/out/libc_api.a && ./labs [--settings settings.lxt] exercise.lxe answer.lxa */
 #include "nurimkkot.h"
 #include "sheet_files.h"
 

@@ -1,7 +1,7 @@
 /* Counts the minutes on a tablet's log and prints a line for each apprentice, then one for each entry that covers no minute; where the log is
  * refused, prints the number.
  *
- *     cc -o minutes c/minutes.c target/staticlib/libc_api.a && ./minutes tablet.lxl */
+ *     cc -o minutes c/minutes.c crates/c_api/out/libc_api.a && ./minutes tablet.lxl */
 #include "nurimkkot.h"
 #include "sheet_files.h"
 

@@ -1,7 +1,7 @@
 /* Nurimkkot: the judge of FPGA placement exercises, for one answer and for a class, the minutes on a tablet's log, the check of one LAB, the
  * readers and the writers of exercise, answer and settings sheets, for C.
  *
- * Link with libc_api.a, which `rt staticlib c_api` writes to target/staticlib. The archive is for x86-64 Linux, position independent,
+ * Link with libc_api.a, which `rt lib`, called in crates/c_api, writes to crates/c_api/out. The archive is for x86-64 Linux, position independent,
  * and calls nothing but memory functions of the C library (memcpy, memset and the like). docs/SHEETS.md has the layout of the sheets.
  *
  * Every function asks this of its pointers:

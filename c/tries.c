@@ -2,7 +2,7 @@
  * always, and their sum; where the verdict is another, prints that number alone. The board is that of the settings sheet in a third file or,
  * where none is given, that of document 01.
  *
- *     cc -o tries c/tries.c target/staticlib/libc_api.a && ./tries [--settings settings.lxt] exercise.lxe answer.lxa */
+ *     cc -o tries c/tries.c crates/c_api/out/libc_api.a && ./tries [--settings settings.lxt] exercise.lxe answer.lxa */
 #include "nurimkkot.h"
 #include "sheet_files.h"
 

@@ -1,7 +1,7 @@
 /* Makes the exercise and the answer of document 01's listing from structs, and the settings sheet of a second board from its entries, and
  * writes them to exercise.lxe, answer.lxa and settings.lxt in a folder.
  *
- *     cc -o write c/write.c target/staticlib/libc_api.a && ./write FOLDER */
+ *     cc -o write c/write.c crates/c_api/out/libc_api.a && ./write FOLDER */
 #include "nurimkkot.h"
 
 #include <stdio.h>

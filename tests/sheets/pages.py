@@ -14,8 +14,8 @@ import page_commands  # noqa: E402
 import sheets  # noqa: E402
 
 EXAMPLE = os.path.join(TOP, "target", "c", "example")
-PROGRAM = os.path.join(TOP, "target", "bin", "judge_main")
-LIBRARY = os.path.join(os.environ.get("LIBDIR") or os.path.join(TOP, "target", "staticlib"), "libc_api.a")
+PROGRAM = os.path.join(TOP, "crates", "judge_main", "out", "judge_main")
+LIBRARY = os.path.join(os.environ.get("LIBDIR") or os.path.join(TOP, "crates", "c_api", "out"), "libc_api.a")
 
 
 def page(name):
@@ -219,14 +219,10 @@ def copy_for_command(folder):
         shutil.copy2(os.path.join(TOP, name), folder)
     for name in ("tools", "samples", "boards"):
         shutil.copytree(os.path.join(TOP, name), os.path.join(folder, name))
-    for name in ("target/bin", "target/staticlib", "target/stamp", "made-up"):
+    for name in ("crates/judge_main/out", "crates/c_api/out", "made-up"):
         os.makedirs(os.path.join(folder, name))
-    shutil.copy2(PROGRAM, os.path.join(folder, "target", "bin"))
-    shutil.copy2(LIBRARY, os.path.join(folder, "target", "staticlib"))
-    with open(os.path.join(folder, "crates.txt")) as file:
-        crates = re.findall(r"^(\w+):", file.read(), re.M)
-    for crate in crates:
-        sheets.write(os.path.join(folder, "target", "stamp"), crate, "made up\n")
+    shutil.copy2(PROGRAM, os.path.join(folder, "crates", "judge_main", "out"))
+    shutil.copy2(LIBRARY, os.path.join(folder, "crates", "c_api", "out"))
     sheets.write(os.path.join(folder, "made-up"), "rt", "#!/bin/sh\n")
     os.chmod(os.path.join(folder, "made-up", "rt"), 0o755)
 
