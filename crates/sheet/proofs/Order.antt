@@ -2,7 +2,7 @@
 use Prim.Native.Nat.{suc}
 use mathlib.Core.Path.{◌≡◌, refl, ap, ◌∙◌}
 use mathlib.Core.Bool.{Bool, true, false, ◌||◌}
-use mathlib.Core.List.{List, [], ◌∷◌, Permᴰ}
+use mathlib.Core.List.{List, ◌∷◌, Permᴰ}
 use lib.ListN.{length}
 use Rattle.sheet.specs.Lists.{anyb, filterb}
 use Rattle.sheet.proofs.Laws.{by_test}

@@ -13,7 +13,7 @@ use Rattle.exercise.specs.Record.{is_malformed, outputs}
 use Rattle.exercise.specs.declared.CombinationalCell.{CombinationalCell}
 use Rattle.exercise.specs.declared.RegisterCell.{RegisterCell}
 use Rattle.exercise.specs.declared.Record.{Record}
-use Rattle.exercise.specs.declared.Record.TheVariants.{Combinational, Register, Malformed}
+use Rattle.exercise.specs.declared.Record.TheVariants.{Combinational, Register}
 use Rattle.sheet.proofs.Laws.{passes_by, stops_by}
 use Rattle.tables.specs.passes.Tables.{marked_twice, mark_each, double_from}
 

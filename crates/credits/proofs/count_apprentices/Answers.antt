@@ -1,10 +1,7 @@
 -- The loop's invariant: the entries of the keys before i are tallied.
-use Prim.Native.Nat.{◌-◌}
-use lib.ListN.{length}
 use mathlib.Core.Path.{refl, ap}
-use Rattle.credits.proofs.Walks.{Walked, walk_starts, walk_goes, walk_fits, walk_ends}
+use Rattle.credits.proofs.Walks.{walk_goes, walk_ends}
 use Rattle.credits.specs.declared.Tally.{Tally}
-use borrow.Author.Rules.{rules}
 use Rattle.credits.proofs.count_apprentices.Goals as goal
 
 pub loop-i-preserved : goal.loop-i-preserved

@@ -1,7 +1,6 @@
 -- The keys are sorted; what the passes over them find is what the log says.
 use mathlib.Core.Path.{◌∙◌}
 use Rattle.credits.proofs.Outcome.{keys_few, refused_many, lists_filled}
-use borrow.Author.Rules.{rules}
 use Rattle.credits.proofs.credit.Goals as goal
 
 pub sort_keys-requires : goal.sort_keys-requires

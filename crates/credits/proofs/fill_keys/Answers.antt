@@ -1,10 +1,6 @@
 -- The loop's invariant: the keys of the entries before i are filled in.
-use Prim.Native.Nat.{◌-◌}
 use mathlib.Core.Path.{refl}
-use native.Mathlib.Omega.{arith}
-use lib.ListN.{length}
-use Rattle.credits.proofs.Walks.{Keyed, key_starts, key_goes, key_length, key_ends}
-use borrow.Author.Rules.{rules}
+use Rattle.credits.proofs.Walks.{key_goes, key_ends}
 use Rattle.credits.proofs.fill_keys.Goals as goal
 
 pub loop-i-preserved : goal.loop-i-preserved

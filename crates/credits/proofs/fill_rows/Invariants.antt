@@ -1,9 +1,7 @@
 -- The loop's invariant: the entries of the keys before i are tallied, and their rows stored.
 use Prim.Native.Nat.{◌-◌}
-use mathlib.Core.Path.{refl}
 use lib.ListN.{length}
-use Rattle.credits.proofs.Walks.{walk_fits, Filled, fill_starts, fill_goes, fill_ends}
-use borrow.Author.Rules.{rules}
+use Rattle.credits.proofs.Walks.{Filled}
 use Rattle.credits.proofs.fill_rows.Given as goal
 
 abbrev pub invariant-loop-i : goal.invariant-loop-i

@@ -2,7 +2,6 @@
 use mathlib.Core.Path.{sym, ◌∙◌}
 use lib.Seq.{length-take-le}
 use Rattle.credits.proofs.Outcome.{keys_few, refused_rows, refused_numbers, refused_log}
-use borrow.Author.Rules.{rules}
 use Rattle.credits.proofs.minutes.Goals as goal
 
 pub returns-then-rows-ne-ROWS-clause-told : goal.returns-then-rows-ne-ROWS-clause-told

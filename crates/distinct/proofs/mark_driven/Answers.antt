@@ -1,5 +1,4 @@
 -- The two tests are those of `is_read`, and a net past the end of the marks changes nothing.
-use Rattle.std.proofs.Common.{rules}
 use Rattle.distinct.proofs.Nets.{drive_read, drive_other, drive_past}
 use Rattle.distinct.proofs.mark_driven.Goals as goal
 

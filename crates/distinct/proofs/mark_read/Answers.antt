@@ -1,5 +1,4 @@
 -- The mark and the count are those of `mark_read`, and a net past the end of the marks changes nothing.
-use Rattle.std.proofs.Common.{rules}
 use Rattle.distinct.proofs.Nets.{read_within, read_past}
 use Rattle.distinct.proofs.mark_read.Goals as goal
 

@@ -1,6 +1,5 @@
 -- The four inputs, then the two outputs.
 use mathlib.Core.List.{[], ◌∷◌}
-use borrow.Author.Rules.{rules}
 use Rattle.exercise.specs.Record.{outputs}
 use Rattle.distinct.specs.passes.Marks.{drives}
 use Rattle.lab_nets.specs.NetsIn.{inputs}

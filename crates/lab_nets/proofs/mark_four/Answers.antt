@@ -1,6 +1,5 @@
 -- One signal after the other.
 use mathlib.Core.List.{[], ◌∷◌}
-use borrow.Author.Rules.{rules}
 use Rattle.distinct.specs.passes.Marks.{reads}
 use Rattle.lab_nets.proofs.Ports.{then}
 use Rattle.lab_nets.proofs.mark_four.Goals as goal

@@ -1,5 +1,4 @@
 -- The nets of one signal are its net, or none.
-use borrow.Author.Rules.{rules}
 use Rattle.distinct.specs.passes.Marks.{reads}
 use Rattle.lab_nets.proofs.Ports.{net_marked, none_marked}
 use Rattle.lab_nets.proofs.mark_input.Goals as goal

@@ -1,5 +1,4 @@
 -- The nets of one signal are its net, or none.
-use borrow.Author.Rules.{rules}
 use Rattle.distinct.specs.passes.Marks.{drives}
 use Rattle.lab_nets.proofs.Ports.{net_marked, none_marked}
 use Rattle.lab_nets.proofs.mark_output.Goals as goal

@@ -1,6 +1,5 @@
 -- Four inputs, then the three others, then the output.
 use mathlib.Core.List.{[], ◌∷◌}
-use borrow.Author.Rules.{rules}
 use Rattle.exercise.specs.Record.{outputs}
 use Rattle.distinct.specs.passes.Marks.{reads}
 use Rattle.lab_nets.specs.NetsIn.{inputs}

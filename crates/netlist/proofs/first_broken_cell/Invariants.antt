@@ -1,10 +1,6 @@
 -- A scan of the cells, each tested by its number.
 use Prim.Native.Nat.{◌-◌}
-use mathlib.Core.Bool.{not}
-use mathlib.Core.Path.{ap}
-use borrow.Author.Rules.{rules}
-use Rattle.sheet.proofs.Scan.{scan_goes_at, scan_stops_at, Scanned, scan}
-use Rattle.sheet.proofs.Laws.{eq_by, ne_by}
+use Rattle.sheet.proofs.Scan.{Scanned}
 use Rattle.netlist.specs.passes.Numbers.{broken_at}
 use Rattle.exercise.specs.passes.Known.{known_at}
 use Rattle.netlist.proofs.first_broken_cell.Given as goal

@@ -1,10 +1,8 @@
 -- A scan over the cells, in which the test is put to the cell's record.
-use Rattle.placing.proofs.Places.{detached_told}
-use Rattle.sheet.proofs.Scan.{Scanned, scan}
+use Rattle.sheet.proofs.Scan.{Scanned}
 use Prim.Native.Nat.{◌-◌}
 use Rattle.placing.specs.passes.Detached.{detached_at}
 use Rattle.exercise.specs.passes.Known.{known_at}
-use borrow.Author.Rules.{rules}
 use Rattle.placing.proofs.first_detached.Given as goal
 
 abbrev pub invariant-loop-i : goal.invariant-loop-i

@@ -3,10 +3,7 @@ use Rattle.placing.proofs.Places.{place_told_lem}
 use mathlib.Core.Path.{refl}
 use mathlib.Core.Bool.{true, false}
 use Rattle.answer.specs.declared.Placed.TheVariants.{At, OutOfRange}
-use Rattle.sheet.proofs.Scan.{Scanned, scan, scan_goes, scan_stops}
-use Prim.Native.Nat.{◌-◌}
-use Rattle.placing.specs.Places.{out_of_range_at}
-use borrow.Author.Rules.{rules}
+use Rattle.sheet.proofs.Scan.{scan, scan_goes, scan_stops}
 use Rattle.placing.proofs.first_out_of_range.Goals as goal
 
 pub returns-in_default : goal.returns-in_default

@@ -1,12 +1,7 @@
 -- A scan over the cells, in which the variant that was read is the test.
-use Rattle.placing.proofs.Places.{place_told_lem}
-use mathlib.Core.Path.{refl}
-use mathlib.Core.Bool.{true, false}
-use Rattle.answer.specs.declared.Placed.TheVariants.{At, OutOfRange}
-use Rattle.sheet.proofs.Scan.{Scanned, scan, scan_goes, scan_stops}
+use Rattle.sheet.proofs.Scan.{Scanned}
 use Prim.Native.Nat.{◌-◌}
 use Rattle.placing.specs.Places.{out_of_range_at}
-use borrow.Author.Rules.{rules}
 use Rattle.placing.proofs.first_out_of_range.Given as goal
 
 abbrev pub invariant-loop-i : goal.invariant-loop-i

@@ -1,6 +1,5 @@
 -- The test of the LE before picks the arm of the definition, and what was read is what the definition names.
 use Rattle.placing.proofs.Places.{follows_last, follows_next}
-use borrow.Author.Rules.{rules}
 use Rattle.placing.proofs.follows.Goals as goal
 
 pub returns-then-le_before-eq15 : goal.returns-then-le_before-eq15

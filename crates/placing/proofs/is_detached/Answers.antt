@@ -1,6 +1,5 @@
 -- Only a combinational cell is fed; of one, each conjunct is what a call answered.
 use Rattle.placing.proofs.Places.{not_fed, fed_is}
-use borrow.Author.Rules.{rules}
 use Rattle.placing.proofs.is_detached.Goals as goal
 
 pub returns-in_default : goal.returns-in_default

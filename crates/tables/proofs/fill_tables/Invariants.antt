@@ -1,10 +1,7 @@
 -- The loop keeps the tables as they are after the cells below i; one more cell is one more step of each definition.
 use Prim.Native.Nat.{◌-◌, ◌≤◌}
-use native.Mathlib.Omega.{arith}
-use native.Mathlib.Numerals.{add-one}
-use mathlib.Core.Path.{◌≡◌, refl, ◌∙◌}
+use mathlib.Core.Path.{◌≡◌}
 use lib.ListN.{length}
-use borrow.Author.Rules.{rules}
 use Rattle.tables.specs.passes.Tables.{reads_below, readers_below, drivers_below}
 use Rattle.exercise.specs.passes.Known.{known_at}
 use Rattle.tables.proofs.fill_tables.Given as goal

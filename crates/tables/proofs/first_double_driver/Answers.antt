@@ -1,8 +1,5 @@
 -- The loop keeps the marks with which the rest of the pass finds what the whole finds.
-use Prim.Native.Nat.{◌-◌}
-use borrow.Author.Rules.{rules}
-use Rattle.tables.proofs.Steps.{Passed, pass}
-use Rattle.exercise.specs.passes.Known.{known_at}
+use Rattle.tables.proofs.Steps.{pass}
 use Rattle.tables.proofs.first_double_driver.Goals as goal
 
 pub returns-then-drives_again : goal.returns-then-drives_again

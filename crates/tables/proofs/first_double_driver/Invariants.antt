@@ -1,7 +1,6 @@
 -- The loop keeps the marks with which the rest of the pass finds what the whole finds.
 use Prim.Native.Nat.{◌-◌}
-use borrow.Author.Rules.{rules}
-use Rattle.tables.proofs.Steps.{Passed, pass}
+use Rattle.tables.proofs.Steps.{Passed}
 use Rattle.exercise.specs.passes.Known.{known_at}
 use Rattle.tables.proofs.first_double_driver.Given as goal
 

@@ -1,10 +1,7 @@
 -- A scan over the entries: it found one that is bad, or it came to the end.
-use Prim.Native.Nat.{◌-◌}
 use mathlib.Core.Path.{sym}
-use Rattle.tablet_log.specs.Log.{bad_at}
 use Rattle.tablet_log.specs.Credited.{any_bad}
-use Rattle.sheet.proofs.Scan.{Scanned, scan, some_found, none_found}
-use borrow.Author.Rules.{rules}
+use Rattle.sheet.proofs.Scan.{scan, some_found, none_found}
 use Rattle.tablet_log.proofs.any_bad.Goals as goal
 
 pub returns-then-bad_at : goal.returns-then-bad_at

@@ -1,7 +1,5 @@
 -- The loop's invariant: of the entries below i, those that cover nothing are listed, and n is their number.
-use Prim.Native.Nat.{◌-◌}
-use Rattle.tablet_log.proofs.Listing.{Listed, list_starts, list_goes, list_length, list_ends}
-use borrow.Author.Rules.{rules}
+use Rattle.tablet_log.proofs.Listing.{list_starts, list_goes}
 use Rattle.tablet_log.proofs.list_empty.Goals as goal
 
 pub loop-i-init : goal.loop-i-init

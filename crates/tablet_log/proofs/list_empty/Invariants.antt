@@ -1,7 +1,6 @@
 -- The loop's invariant: of the entries below i, those that cover nothing are listed, and n is their number.
 use Prim.Native.Nat.{◌-◌}
-use Rattle.tablet_log.proofs.Listing.{Listed, list_starts, list_goes, list_length, list_ends}
-use borrow.Author.Rules.{rules}
+use Rattle.tablet_log.proofs.Listing.{Listed}
 use Rattle.tablet_log.proofs.list_empty.Given as goal
 
 abbrev pub invariant-loop-i : goal.invariant-loop-i
