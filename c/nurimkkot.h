@@ -114,7 +114,8 @@ struct nurimkkot_row {
  *
  * Returns 0 and fills one row for each answer, in the order of the answers, with the four numbers that nurimkkot_judge has for that
  * answer, a route buffer and a list of tries of the right size; *filled is how many. The rows past the last answer stay, and no route
- * and no tries are written. A settings sheet or an exercise that is refused shows in every row, never in what is returned.
+ * and no tries are written. A settings sheet or an exercise that is refused shows in rows, never in what is returned: 70 to 75 and 10 to
+ * 16 in every row, 30 to 44 in the row of every answer that passes 20 to 26.
  *
  * Or returns the first of these that applies, before it looks at the other sheets; then not one row is touched, and *filled is 0:
  *   76  the class sheet has under 7 bytes, a wrong mark or version, more than 32 answers, or lengths that do not add up to its own;

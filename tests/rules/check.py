@@ -1,5 +1,5 @@
-"""Holds the table "From a rule to its proof" of docs/PROVING.md, and the files that docs/READING.md lists, against the repository. Argument: the
-repository."""
+"""Holds the table "From a rule to its proof" of docs/PROVING.md, and the files and edits that docs/READING.md names, against the repository. Argument:
+the repository."""
 import re
 import sys
 from pathlib import Path
@@ -145,12 +145,26 @@ faults.extend(f"no must-fail edit {name}, listed under the table" for name in ot
 faults.extend(f"must-fail edit {name} stands in the table and under it" for name in others if name in named["edits"])
 faults.extend(f"must-fail edit {name} is left out" for name in sorted(edits - named["edits"] - set(others)))
 
-# ---- what a reader believes: all that stands directly in specs/ is listed, and none of it names what serves the proofs alone
+# ---- what a reader believes: all that stands directly in specs/ is listed. None of it names what serves the proofs alone, but for the statements that tie
+# a pass to a definition
+READING = "docs/READING.md"
+
+
+def spec_files(page):
+    return {TOP / name for name in re.findall(r"`(crates/[^`]*\.antt)`", page) if "/specs/" in name}
+
+
 believed = {path for path in CRATES.glob("*/specs/*.antt") if path.stem not in ("Lib", "passes")}
-listed = {TOP / name for name in re.findall(r"`(crates/[^`]*\.antt)`", text(TOP / "docs/READING.md")) if "/specs/" in name}
-faults.extend(f"docs/READING.md leaves out {path.relative_to(TOP)}" for path in sorted(believed - listed))
-faults.extend(f"docs/READING.md lists {path.relative_to(TOP)}, which is not to be believed" for path in sorted(listed - believed))
-faults.extend(f"{path.relative_to(TOP)} names a definition of specs/passes/" for path in sorted(believed) if ".passes." in text(path))
+listed = spec_files(text(TOP / READING))
+ties = spec_files("\n".join(section(READING, "Where a pass meets a definition")))
+faults.extend(f"{READING} leaves out {path.relative_to(TOP)}" for path in sorted(believed - listed))
+faults.extend(f"{READING} lists {path.relative_to(TOP)}, which is not to be believed" for path in sorted(listed - believed))
+faults.extend(f"{path.relative_to(TOP)} names a definition of specs/passes/" for path in sorted(believed - ties) if ".passes." in text(path))
+
+# the edits that are named exist
+for name in re.findall(r"`(\w+/\w+)`", "\n".join(section(READING, "What shuts out a wrong program"))):
+    if name not in edits:
+        faults.append(f"{READING}: no must-fail edit {name}")
 
 if faults:
     print("\n".join(f"rules: {fault}" for fault in faults))

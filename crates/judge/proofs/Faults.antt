@@ -22,17 +22,17 @@ pub call : AllAt Call (0 ∷ 1 ∷ 3 ∷ 70 ∷ 71 ∷ 72 ∷ 73 ∷ 74 ∷ 75 �
 unfolding AllAt fault_of
 call = refl
 
-pub exercise_head_lem : AllAt ExerciseHead (10 ∷ 11 ∷ 12 ∷ 13 ∷ 14 ∷ [])
+pub exercise_head : AllAt ExerciseHead (10 ∷ 11 ∷ 12 ∷ 13 ∷ 14 ∷ [])
 unfolding AllAt fault_of
-exercise_head_lem = refl
+exercise_head = refl
 
 pub cell_record : AllAt Record (15 ∷ 16 ∷ 30 ∷ 31 ∷ 32 ∷ 33 ∷ 34 ∷ 35 ∷ 40 ∷ 41 ∷ 42 ∷ 43 ∷ 44 ∷ [])
 unfolding AllAt fault_of
 cell_record = refl
 
-pub answer_head_lem : AllAt AnswerHead (20 ∷ 21 ∷ 22 ∷ 23 ∷ 24 ∷ 25 ∷ [])
+pub answer_head : AllAt AnswerHead (20 ∷ 21 ∷ 22 ∷ 23 ∷ 24 ∷ 25 ∷ [])
 unfolding AllAt fault_of
-answer_head_lem = refl
+answer_head = refl
 
 pub cell_place : AllAt Place (26 ∷ 50 ∷ 51 ∷ [])
 unfolding AllAt fault_of

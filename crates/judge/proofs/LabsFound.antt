@@ -14,7 +14,7 @@ use Rattle.exercise.specs.passes.Known.{known_at}
 use Rattle.exercise.specs.declared.Record.{Record}
 use Rattle.sheet.proofs.Laws.{by_test}
 use Rattle.entries.specs.Table.{Table}
-use Rattle.route.proofs.AllWays.{SameServed}
+use Rattle.route.specs.Served.{SameServed}
 use Rattle.lab_rules.specs.Rules.{lab_checks, lab_number, route_of, lab_result, lab_tries}
 use Rattle.lab_rules.specs.passes.Counts.{AllFit}
 use Rattle.lab_rules.specs.declared.LabResult.{LabResult}

@@ -34,9 +34,9 @@ module _ (c : Call) (f : Finding) (fine : Fine c f) where
   unfolding verdict_of
   named = record {
     call = λ m. part fault.Call (fault_in fault.Call _ faults.call f.number m);
-    exercise_head_lem = λ m. part ExerciseHead (fault_in ExerciseHead _ faults.exercise_head_lem f.number m);
+    exercise_head = λ m. part ExerciseHead (fault_in ExerciseHead _ faults.exercise_head f.number m);
     cell_record = λ m. let q = fault_in Record _ faults.cell_record f.number m in ((known Record q).0, part Record q);
-    answer_head_lem = λ m. part AnswerHead (fault_in AnswerHead _ faults.answer_head_lem f.number m);
+    answer_head = λ m. part AnswerHead (fault_in AnswerHead _ faults.answer_head f.number m);
     cell_place = λ m. let q = fault_in Place _ faults.cell_place f.number m in ((known Place q).0, part Place q);
     lab_place = λ m. let q = fault_in Lab _ faults.lab_place f.number m in (lowest_in a (cell_count e) f.lab, (known Lab q).0, part Lab q);
   }

@@ -15,7 +15,7 @@ use Rattle.sheet.proofs.First.{none_first}
 use Rattle.exercise.specs.Exercise.{cell_count}
 use Rattle.exercise.specs.passes.Known.{known_at}
 use Rattle.entries.specs.Table.{Table, eight_rows}
-use Rattle.route.proofs.AllWays.{SameServed}
+use Rattle.route.specs.Served.{SameServed}
 use Rattle.settings.specs.Settings.{settings_number, table_of}
 use Rattle.settings.proofs.Laws.{same_table}
 use Rattle.lab_rules.specs.Rules.{lab_tries}
@@ -35,6 +35,7 @@ use Rattle.judge.specs.declared.Prepared.{Prepared}
 use Rattle.verdict.specs.declared.Verdict.{Verdict}
 use Rattle.judge.specs.Call.{Call, call}
 use Rattle.judge.specs.Judge.{room_checks, settings_group, exercise_group, answer_group, cell_group, place_group, lab_group, checks_to51, checks, lab_cells, first_broken, judged, route_bytes, routed, tries_of, tried}
+use Rattle.judge.specs.Serves.{PreparedServes}
 use Rattle.verdict.specs.Verdicts.{finding, legal, verdict_of}
 use Rattle.verdict.specs.Numbers.{numbers_to51, searched_numbers}
 use Rattle.judge.specs.passes.Stages.{numbered_as, numbered, numbered_lab, placed_by}
@@ -385,6 +386,11 @@ module _ (s e a : List ℕ) (r n : ℕ) (room : r ≡ 8192) (slots : n ≡ 1024)
           k ∙ by_test (elemb g.number searched_numbers) (λ b. rw b (list_found b)) (λ b. rw b),
         ),
       )
+
+-- the law of Serves, for a route buffer and a list of tries of the right length
+pub serves_every : PreparedServes
+unfolding PreparedServes
+serves_every s e a = prepared_serves s e a 8192 1024 refl refl
 
 -- ---- the whole verdict
 module _ (c : Call) (before list : List ℕ) (v : Verdict) where

@@ -101,7 +101,7 @@ module _ (c : Call) (before : List ℕ) (legal : (judged c).number ≡ 0) where
       let g = lab_held l low in
       record {
         w = g.w;
-        is_way_lem = g.is_way_lem;
+        is_way = g.is_way;
         others_later = g.others_later;
         held = λ i m. byte_at l (byte_of_need (lab_needs c l) i) low (g.held i m).0 ∙ (g.held i m).1;
       }

@@ -17,7 +17,7 @@ use Rattle.sheet.proofs.First.{first_most, before_first}
 use Rattle.exercise.specs.Exercise.{cell_count}
 use Rattle.exercise.specs.passes.Known.{known_at}
 use Rattle.entries.specs.Table.{Table}
-use Rattle.route.proofs.AllWays.{SameServed}
+use Rattle.route.specs.Served.{SameServed}
 use Rattle.lab_rules.specs.Rules.{lab_tries}
 use Rattle.lab_rules.specs.passes.Counts.{AllFit}
 use Rattle.lab_rules.specs.declared.LabSearch.{LabSearch}

@@ -37,12 +37,12 @@ pub record NamesCulprit (c : Call) (v : Verdict) : Type 0 where
   -- "for 0 and 1 the empty part at the answer's end"; 70 to 75 with "the culprit of 1"; 3 "as for 1"
   pub call : OneOf v (0 ∷ 1 ∷ 3 ∷ 70 ∷ 71 ∷ 72 ∷ 73 ∷ 74 ∷ 75 ∷ []) → v.culprit ≡ of_answer (length c.answer) 0
   -- "for 10 to 14 the first 9 bytes of the exercise (all of them if fewer)"
-  pub exercise_head_lem : OneOf v (10 ∷ 11 ∷ 12 ∷ 13 ∷ 14 ∷ []) → v.culprit ≡ of_exercise 0 (min 9 (length c.exercise))
+  pub exercise_head : OneOf v (10 ∷ 11 ∷ 12 ∷ 13 ∷ 14 ∷ []) → v.culprit ≡ of_exercise 0 (min 9 (length c.exercise))
   -- "for 15, 16 and 30 to 44 that cell's exercise record"
   pub cell_record : OneOf v (15 ∷ 16 ∷ 30 ∷ 31 ∷ 32 ∷ 33 ∷ 34 ∷ 35 ∷ 40 ∷ 41 ∷ 42 ∷ 43 ∷ 44 ∷ [])
       → (v.cell < cell_count c.exercise) × (v.culprit ≡ of_exercise (record_start v.cell) 24)
   -- "for 20 to 25 the first 11 bytes of the answer (or all)"
-  pub answer_head_lem : OneOf v (20 ∷ 21 ∷ 22 ∷ 23 ∷ 24 ∷ 25 ∷ []) → v.culprit ≡ of_answer 0 (min 11 (length c.answer))
+  pub answer_head : OneOf v (20 ∷ 21 ∷ 22 ∷ 23 ∷ 24 ∷ 25 ∷ []) → v.culprit ≡ of_answer 0 (min 11 (length c.answer))
   -- "for 26, 50 and 51 that cell's answer record"
   pub cell_place : OneOf v (26 ∷ 50 ∷ 51 ∷ []) → (v.cell < cell_count c.exercise) × (v.culprit ≡ of_answer (place_start v.cell) 4)
   -- "for 60 to 65 the answer record of the lowest cell in that LAB"
@@ -106,7 +106,7 @@ module _ (c : Call) where
   -- the route bytes of LAB l hold w, a way than which every other comes later
   pub record HoldsFirstWay (route : List ℕ) (l : ℕ) : Type 0 where
     pub w : List ℕ
-    pub is_way_lem : Way (in_force c) (lab_needs l) w
+    pub is_way : Way (in_force c) (lab_needs l) w
     pub others_later : (v : List ℕ) → Way (in_force c) (lab_needs l) v → (v ≡ w) ⊎ Earlier w v
     pub held : (i : ℕ) → i < length (lab_needs l) → get_or route (byte_of l i) 0 ≡ get_or w i 0
 

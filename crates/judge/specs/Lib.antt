@@ -5,4 +5,5 @@ pub mod Tried
 pub mod Culprit
 pub mod Ring
 pub mod AsBefore
+pub mod Serves
 pub mod passes

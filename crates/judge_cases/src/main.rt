@@ -85,8 +85,7 @@ fn show<'a>(
     room: usize,
     slots: usize,
 ) -> io::Result<()>
-    requires room { room ≤ 8192 }
-    requires slots { slots ≤ 1024 }
+    requires { (room ≤ 8192) × (slots ≤ 1024) }
 {
     let mut route = [255u8; judge::ROUTE_SIZE];
     let mut tries = [0u32; judge::TRIES_SIZE];

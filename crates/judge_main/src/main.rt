@@ -41,20 +41,18 @@ fn read_sheet(rt: &impl Files, path: &str, buf: &mut [u8]) -> usize
     }
 }
 
-// Writes the listing of an exercise and an answer on the board of a settings sheet to standard output.
-fn show(rt: &impl Print, settings: &[u8], exercise: &[u8], answer: &[u8]) -> io::Result<()> {
+// Writes the listing on the board of document 01 to standard output.
+fn show(rt: &impl Print, exercise: &[u8], answer: &[u8]) -> io::Result<()> {
     let mut out = [0u8; listing::MOST];
-    let n = listing::listing(settings, exercise, answer, &mut out);
+    let n = listing::house_listing(exercise, answer, &mut out);
     rt.write_all(&out[..n])
 }
 
-// Writes the listing of the sheets in the current directory.
-fn judge_folder(rt: &(impl Files + Print), settings: &[u8]) -> io::Result<()> {
-    let mut exercise = [0u8; EXERCISE_ROOM];
-    let mut answer = [0u8; ANSWER_ROOM];
-    let n = read_sheet(rt, "exercise.lxe", &mut exercise);
-    let m = read_sheet(rt, "answer.lxa", &mut answer);
-    show(rt, settings, &exercise[..n], &answer[..m])
+// Writes the listing on the board of a settings sheet to standard output.
+fn show_on_settings(rt: &impl Print, settings: &[u8], exercise: &[u8], answer: &[u8]) -> io::Result<()> {
+    let mut out = [0u8; listing::MOST];
+    let n = listing::listing(settings, exercise, answer, &mut out);
+    rt.write_all(&out[..n])
 }
 
 // Whether the program was started with the word --settings.
@@ -67,10 +65,14 @@ fn wants_settings(rt: &impl Env) -> bool {
 }
 
 fn main(rt: HostRuntime) -> io::Result<()> {
+    let mut exercise = [0u8; EXERCISE_ROOM];
+    let mut answer = [0u8; ANSWER_ROOM];
+    let n = read_sheet(&rt, "exercise.lxe", &mut exercise);
+    let m = read_sheet(&rt, "answer.lxa", &mut answer);
     if wants_settings(&rt) {
         let mut settings = [0u8; SETTINGS_ROOM];
-        let n = fill(&mut rt.reader(), &mut settings);
-        return judge_folder(&rt, &settings[..n]);
+        let k = fill(&mut rt.reader(), &mut settings);
+        return show_on_settings(&rt, &settings[..k], &exercise[..n], &answer[..m]);
     }
-    judge_folder(&rt, &settings::house_settings())
+    show(&rt, &exercise[..n], &answer[..m])
 }

@@ -83,7 +83,7 @@ module _ (t : Table) (cs : List Record) where
       let fits = needs_room cs fit r.0 r.1 r.2 r.3 in
       record {
         w = way.0;
-        is_way_lem = first.0;
+        is_way = first.0;
         others_later = first.1;
         held = λ i m. rw bytes (slot_held (needs cs) way.0 first.0.as_long fits i m);
         no_need_255 = λ b s u. rw bytes (slot_free (needs cs) way.0 first.0.as_long b s u);

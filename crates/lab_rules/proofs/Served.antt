@@ -7,7 +7,8 @@ use Rattle.sheet.specs.Checks.{check, first_number}
 use Rattle.exercise.specs.declared.Record.{Record}
 use Rattle.entries.specs.Table.{Table}
 use Rattle.route.specs.Route.{lab_route_of}
-use Rattle.route.proofs.AllWays.{SameServed, same_earliest}
+use Rattle.route.specs.Served.{SameServed}
+use Rattle.route.proofs.AllWays.{same_earliest}
 use Rattle.route.proofs.Tries.{same_tries as tries-served}
 use Rattle.lab_rules.specs.Rules.{needs, is_none, no_way, lab_rules, lab_number, route_of, lab_tries, lab_result}
 

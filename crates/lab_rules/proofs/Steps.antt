@@ -1,11 +1,9 @@
 -- What one function after the other adds to the counters and the needs of a LAB is what one list of them adds. Assumes nothing.
 use Prim.Native.Nat.{ℕ, ◌+◌, ◌≤◌}
 use mathlib.Core.Path.{◌≡◌, refl, ◌∙◌}
-use mathlib.Core.Logic.{◌⊎◌, inl, inr}
 use mathlib.Core.Bool.{Bool, true, false, cond, ◌&&◌, ◌||◌}
 use mathlib.Core.List.{List, [], ◌∷◌, ◌++◌, map, append-nil, append_assoc}
 use native.Mathlib.Omega.{arith}
-use denote.Enum.Declared.{tag_of}
 use lib.ListN.{length, length-append, length-map}
 use lib.Dec.{eqb, ltb}
 use borrow.Author.Tests.{ltb-true, ltb-false, eq-eqb, ne_eqb, eqb-false}
@@ -13,7 +11,6 @@ use Rattle.sheet.specs.Signal.{GND, VCC, connected, is_net}
 use Rattle.exercise.specs.declared.RegisterCell.{RegisterCell}
 use Rattle.exercise.specs.declared.Record.{Record}
 use Rattle.exercise.specs.declared.Record.TheVariants.{Combinational, Register, Malformed}
-use Rattle.exercise.specs.contracts.Record.{the_type}
 use Rattle.sheet.proofs.Laws.{by_test}
 use Rattle.sheet.proofs.Lists.{filter-length}
 use Rattle.distinct.specs.declared.UpToTwo.{UpToTwo}

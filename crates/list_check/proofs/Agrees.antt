@@ -102,7 +102,7 @@ module _ (c : Call) (l : ℕ) (cs : List Cell) (low : l < 1024) (held : AllHold 
 pub list_law : ListLaw
 unfolding ListLaw
 list_law c l cs low held copied = record {
-  lab_result_lem = lab_result_lem c l cs low held copied;
+  as_lab_result = lab_result_lem c l cs low held copied;
   named = named c l cs low held copied;
   names = names c l cs low held copied;
   legal = legal c l cs low held copied;

@@ -26,7 +26,7 @@ ListOf c l cs = (ds : List Cell) × Permᴰ cs ds × Copies c.exercise (members 
 -- what the list check and the judge have in common
 pub record Agrees (c : Call) (l : ℕ) (cs : List Cell) : Type 0 where
   -- the list gets the number and the eight bytes of the LAB: it is never 18
-  pub lab_result_lem : list_verdict c.settings cs ≡ lab_result (in_force c) (lab_cells c l)
+  pub as_lab_result : list_verdict c.settings cs ≡ lab_result (in_force c) (lab_cells c l)
   -- where the judge names the LAB, it gives the list's number
   pub named : (judged c).lab ≡ l → (judged c).number ≡ (list_verdict c.settings cs).number
   -- where the list's number is not 0 and every lower LAB has 0, the judge names the LAB

@@ -1,4 +1,4 @@
--- The two ways out of `listing`: the verdict line alone, or with the lines of the LABs after it. Assumes nothing.
+-- The two ways out of `listing`: the verdict line alone, or with the lines of the LABs after it; and the board of `house_listing`. Assumes nothing.
 use Prim.Native.Nat.{ℕ, ◌≤◌}
 use mathlib.Core.Path.{◌≡◌, sym, ap, ◌∙◌}
 use mathlib.Core.List.{List}
@@ -6,6 +6,7 @@ use native.Mathlib.Omega.{arith}
 use borrow.Author.Tests.{eq-eqb, ne_eqb}
 use lib.ListN.{length, replicate, length-replicate}
 use Rattle.exercise.specs.Exercise.{cell_count}
+use Rattle.settings.specs.House.{house_settings}
 use Rattle.verdict.specs.declared.Verdict.{Verdict}
 use Rattle.judge.specs.Call.{call}
 use Rattle.judge.specs.Judge.{judged, routed}
@@ -22,6 +23,10 @@ Listed s e a before after n = (after ≡ overwrite before 0 (listing s e a)) × 
 
 listed : (s e a before : List ℕ) {after : List ℕ} {n : ℕ} → Writes before 0 (listing s e a) MOST after n → Listed s e a before after n
 listed s e a before w = (w.stored, (omega (arith, w.past), omega (arith, w.short)))
+
+-- where the sheet that is judged on is the supplied one, the listing is the one on the board of document 01
+pub on_house_lem : (s e a before : List ℕ) {after : List ℕ} {n : ℕ} → Listed s e a before after n → s ≡ house_settings → Listed house_settings e a before after n
+on_house_lem s e a before listed same = rw same at listed
 
 -- the route buffer before the verdict
 abbrev fresh : List ℕ

@@ -1,6 +1,7 @@
 #![tactic(auto)]
 
 ghost use Rattle.std.specs.Prelude.{◌≡◌, [], ◌∷◌, ◌++◌, ◌+◌, ◌≤◌, length};
+ghost use Rattle.settings.specs.House.{house_settings};
 ghost use Rattle.listing.specs.Text.{ascii, decimal, overwrite, MOST};
 ghost use Rattle.listing.specs.passes.Writes.{Fits, Writes};
 ghost use Rattle.listing.specs.Listing.{or_dash, place, entry, verdict_line, lab_line, listing};
@@ -200,4 +201,14 @@ pub fn listing(settings: &[u8], exercise: &[u8], answer: &[u8], out: &mut [u8]) 
     let mut marks = [0u8; 1024];
     mark_labs(answer, exercise::cell_count(exercise), &mut marks);
     lab_lines(out, next, &marks, &route)
+}
+
+// The listing on the board of document 01.
+pub fn house_listing(exercise: &[u8], answer: &[u8], out: &mut [u8]) -> usize
+    ensures written { out.new ≡ overwrite out.old 0 (listing house_settings exercise.now answer.now) }
+    ensures counted { result ≡ length (listing house_settings exercise.now answer.now) }
+    ensures short { result ≤ MOST }
+{
+    let house = settings::house_settings();
+    listing(&house, exercise, answer, out)
 }

@@ -16,6 +16,7 @@ use Rattle.sheet.proofs.Laws.{by_test, and_parts}
 use Rattle.entries.specs.declared.Need.{Need}
 use Rattle.entries.specs.Table.{Table, ENTRIES, serves, no_row, eight_rows, need_at, need_net}
 use Rattle.route.specs.Way.{Way, Earlier, fits, fits_all, is_way, entry_lists, ways, first_of, earliest_way}
+use Rattle.route.specs.Served.{SameServed}
 use Rattle.route.specs.passes.Search.{attempt, pick, found_way}
 use Rattle.route.proofs.Search.{First, Begun, first_none, first_some, first_found, first_same, pick_first}
 use Rattle.route.proofs.Ways.{OneNet, served_low, way_nil, way_cons, way_serves, way_shares, way_rest, first_way}
@@ -167,9 +168,6 @@ module _ (t : Table) (ns : List Need) where
   earliest_found w p = first_found (Way t ns) (earliest_way t ns) earliest_first w p
 
 -- ---- a way reads only what an entry serves
-abbrev pub SameServed : Table → Table → Type 0
-SameServed t u = (e r : ℕ) → serves t e r ≡ serves u e r
-
 way_served : (t u : Table) → SameServed t u → (ns : List Need) (w : List ℕ) → Way t ns w → Way u ns w
 way_served t u same ns w h = record {
   as_long = h.as_long;

@@ -17,3 +17,4 @@ mod Placing
 mod Whole
 mod Bytes
 mod TriesCases
+pub mod Stated

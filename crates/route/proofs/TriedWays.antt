@@ -3,7 +3,7 @@
 use Prim.Native.Nat.{ℕ, zero, suc, ◌+◌, ◌<◌, ◌≤◌}
 use mathlib.Core.Path.{◌≡◌, refl, sym}
 use mathlib.Core.Logic.{◌⊎◌, inl, inr, ⊎_elim}
-use mathlib.Core.Bool.{Bool, true, false, ◌&&◌, or-true, true≢false}
+use mathlib.Core.Bool.{Bool, true, ◌&&◌, or-true, true≢false}
 use mathlib.Core.List.{List, [], ◌∷◌, ◌++◌, map}
 use mathlib.Core.Option.{Option, none, some}
 use native.Mathlib.Nat.{eq-or-lt_of_le}
@@ -193,7 +193,7 @@ module _ (t : Table) (ns : List Need) where
   test_partial : (v : List ℕ) → is_partial_way t ns v ≡ true → PartialWay t ns v
   unfolding is_partial_way
   test_partial [] q = absurd (true≢false (sym q))
-  test_partial (e ∷ v) q = record { one_or_more = omega arith; first_needs = within; is_way_lem = way }
+  test_partial (e ∷ v) q = record { one_or_more = omega arith; first_needs = within; is_way = way }
     where
       way : Way t (take (length (e ∷ v)) ns) (e ∷ v)
       way = is_way_lem t (take (length (e ∷ v)) ns) (e ∷ v) q
@@ -204,12 +204,12 @@ module _ (t : Table) (ns : List Need) where
   partial_test : (v : List ℕ) → PartialWay t ns v → is_partial_way t ns v ≡ true
   unfolding is_partial_way
   partial_test [] h = absurd (let l = h.one_or_more in omega arith)
-  partial_test (e ∷ v) h = way_is t (take (length (e ∷ v)) ns) (e ∷ v) h.is_way_lem
+  partial_test (e ∷ v) h = way_is t (take (length (e ∷ v)) ns) (e ∷ v) h.is_way
 
   -- its entries are entries of the table
   partial_low : (v : List ℕ) → PartialWay t ns v → (i : ℕ) → i < length v → get_or v i 0 < length t
   partial_low v h i m =
-      served_low t (get_or v i 0) (need_at (take (length v) ns) i).role (h.is_way_lem.serving i (let l = h.is_way_lem.as_long in omega arith))
+      served_low t (get_or v i 0) (need_at (take (length v) ns) i).role (h.is_way.serving i (let l = h.is_way.as_long in omega arith))
 
   abbrev passed : List ℕ → Bool
   passed v = is_partial_way t ns v && counts (earliest_way t ns) v

@@ -21,7 +21,8 @@ use Rattle.route.specs.passes.Search.{attempt, pick, search_from, spent, tally, 
 use Rattle.entries.specs.passes.Entries.{may_have}
 use Rattle.route.proofs.Search.{Given}
 use Rattle.route.proofs.Ways.{served_low, from_start, to_way, none_held}
-use Rattle.route.proofs.AllWays.{SameServed, is_way_lem, way_is, found_earliest, same_earliest}
+use Rattle.route.specs.Served.{SameServed}
+use Rattle.route.proofs.AllWays.{is_way_lem, way_is, found_earliest, same_earliest}
 
 -- ---- how many lists pass a test, by their first entry
 -- the lists of l with one of the k entries from e on in front

@@ -52,7 +52,7 @@ byte_of_need ns i = first_byte (need_at ns i).role + needs_with (need_at ns i).r
 -- eight bytes hold the earliest way: at the byte of each need the entry that it has, and 255 at a byte of no need
 pub record HoldsEarliest (t : Table) (ns : List Need) (bytes : List ℕ) : Type 0 where
   pub w : List ℕ
-  pub is_way_lem : Way t ns w
+  pub is_way : Way t ns w
   pub others_later : (v : List ℕ) → Way t ns v → (v ≡ w) ⊎ Earlier w v
   pub held : (i : ℕ) → i < length ns → (byte_of_need ns i < 8) × (get_or bytes (byte_of_need ns i) 0 ≡ get_or w i 0)
   pub no_need_255 : (b : ℕ) → b < 8 → ((i : ℕ) → i < length ns → byte_of_need ns i ≡ b → ⊥) → get_or bytes b 0 ≡ 255

@@ -42,7 +42,7 @@ tries t ns = length (tried_ways t ns)
 pub record PartialWay (t : Table) (ns : List Need) (v : List ℕ) : Type 0 where
   pub one_or_more : 0 < length v
   pub first_needs : length v ≤ length ns
-  pub is_way_lem : Way t (take (length v) ns) v
+  pub is_way : Way t (take (length v) ns) v
 
 -- the smaller entry where they first differ, or all entries of v and more
 unfoldable pub Before : List ℕ → List ℕ → Type 0

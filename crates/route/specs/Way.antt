@@ -1,6 +1,6 @@
 -- Document 01, "Control entries", with request M-107, "One net, one entry": what a way is, which of two ways comes first, and all ways of a list of
 -- needs. Nothing here speaks of a search. Assumes nothing.
-use Rattle.std.specs.Prelude.{ℕ, zero, suc, ◌<◌, ◌≡◌, ◌⊎◌, Bool, true, false, not, ◌&&◌, ◌||◌, List, [], ◌∷◌, map, length, get_or, eqb}
+use Rattle.std.specs.Prelude.{ℕ, zero, suc, ◌<◌, ◌≡◌, ◌⊎◌, ◌↔◌, Bool, true, false, not, ◌&&◌, ◌||◌, List, [], ◌∷◌, map, length, get_or, eqb}
 use Rattle.std.proofs.Math.Option.{Option, none, some}
 use Rattle.sheet.specs.Lists.{concat_map, filterb, below}
 use Rattle.entries.specs.declared.Need.{Need}
@@ -56,3 +56,8 @@ module _ {A : Type 0} where
 -- the earliest of all ways, or none where there is no way
 unfoldable pub earliest_way : Table → List Need → Option (List ℕ)
 earliest_way t ns = first_of (ways t ns)
+
+-- THE THEOREM: it is none exactly if there is no way at all; and a way that it names is a way, and earlier than every other
+pub record EarliestLaw : Type 0 where
+  pub none_exactly : (t : Table) (ns : List Need) → (earliest_way t ns ≡ none) ↔ ((w : List ℕ) → Way t ns w → ⊥)
+  pub some_first : (t : Table) (ns : List Need) (w : List ℕ) → earliest_way t ns ≡ some w → Way t ns w × ((v : List ℕ) → Way t ns v → (v ≡ w) ⊎ Earlier w v)

@@ -9,7 +9,8 @@ use borrow.Author.Tests.{eqb-true, ltb-false, not-false}
 use Rattle.sheet.specs.Header.{wrong_mark}
 use Rattle.sheet.proofs.Checks.{all_held, found}
 use Rattle.entries.specs.Table.{ENTRIES, house_board, eight_rows}
-use Rattle.route.proofs.AllWays.{SameServed, rows_serve}
+use Rattle.route.specs.Served.{SameServed}
+use Rattle.route.proofs.AllWays.{rows_serve}
 use Rattle.settings.specs.Settings.{version, entry_count, flags_start, flags, unknown_version, wrong_settings_length, other_flags, settings_checks, settings_number, table_of}
 use Rattle.settings.specs.House.{house_settings, House}
 

@@ -1,8 +1,6 @@
 -- A scan for the first cell that has no key, which puts the keys of the cells before it into the table.
-use Prim.Native.Nat.{◌-◌}
 use native.Mathlib.Omega.{arith}
-use borrow.Author.Rules.{rules}
-use Rattle.clashes.proofs.Keys.{Filled, fill_starts, fill_goes, fill_stops, fill_ends, given_key, keyed_cell}
+use Rattle.clashes.proofs.Keys.{fill_starts, fill_goes, fill_stops, fill_ends, given_key, keyed_cell}
 use Rattle.clashes.proofs.fill_keys.Goals as goal
 
 pub loop-i-init : goal.loop-i-init
@@ -11,7 +9,7 @@ loop-i-init c =
 
 pub returns-then-key-clause-found : goal.returns-then-key-clause-found
 returns-then-key-clause-found c =
-    let whole =  fill_stops _ _ _ _ _ _ c.loop-i.invariant c.loop-i-test.true _ c.key_of-key.ensures c.if-key.true in whole.0
+    let whole = fill_stops _ _ _ _ _ _ c.loop-i.invariant c.loop-i-test.true _ c.key_of-key.ensures c.if-key.true in whole.0
 
 pub bounds-keys-i : goal.bounds-keys-i
 bounds-keys-i c =
@@ -23,4 +21,4 @@ loop-i-preserved c =
 
 pub returns-clause-found : goal.returns-clause-found
 returns-clause-found c =
-    let whole =  fill_ends _ _ _ _ _ _ c.loop-i.invariant c.loop-i-test.false in whole.0
+    let whole = fill_ends _ _ _ _ _ _ c.loop-i.invariant c.loop-i-test.false in whole.0

@@ -1,8 +1,6 @@
 -- A scan for the first cell that has no key, which puts the keys of the cells before it into the table.
 use Prim.Native.Nat.{◌-◌}
-use native.Mathlib.Omega.{arith}
-use borrow.Author.Rules.{rules}
-use Rattle.clashes.proofs.Keys.{Filled, fill_starts, fill_goes, fill_stops, fill_ends, given_key, keyed_cell}
+use Rattle.clashes.proofs.Keys.{Filled}
 use Rattle.clashes.proofs.fill_keys.Given as goal
 
 abbrev pub invariant-loop-i : goal.invariant-loop-i

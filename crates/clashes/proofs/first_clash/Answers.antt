@@ -1,8 +1,6 @@
 -- Both loops scan: the outer one for the first cell whose place is taken, the inner one for a lower cell there.
-use Rattle.sheet.proofs.Scan.{Scanned, scan, scans}
-use Prim.Native.Nat.{◌-◌}
-use Rattle.placing.specs.Places.{same_place, place_taken}
-use borrow.Author.Rules.{rules}
+use Rattle.sheet.proofs.Scan.{scan, scans}
+use Rattle.placing.specs.Places.{place_taken}
 use Rattle.clashes.proofs.first_clash.Goals as goal
 
 pub loop-j-preserved : goal.loop-j-preserved

@@ -1,8 +1,7 @@
 -- Both loops scan: the outer one for the first cell whose place is taken, the inner one for a lower cell there.
-use Rattle.sheet.proofs.Scan.{Scanned, scan, scans}
+use Rattle.sheet.proofs.Scan.{Scanned}
 use Prim.Native.Nat.{◌-◌}
 use Rattle.placing.specs.Places.{same_place, place_taken}
-use borrow.Author.Rules.{rules}
 use Rattle.clashes.proofs.first_clash.Given as goal
 
 abbrev pub invariant-loop-j : goal.invariant-loop-j

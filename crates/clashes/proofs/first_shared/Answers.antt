@@ -1,6 +1,5 @@
 -- Where every cell has a key, the scan over keys finds what the scan over places finds, from whichever cell it begins that none clashes before.
-use borrow.Author.Rules.{rules}
-use Rattle.clashes.proofs.Keys.{keyed_are, none_free, taken_first}
+use Rattle.clashes.proofs.Keys.{keyed_are, taken_first}
 use Rattle.clashes.proofs.first_shared.Goals as goal
 
 pub first_taken-requires-clause-keyed : goal.first_taken-requires-clause-keyed

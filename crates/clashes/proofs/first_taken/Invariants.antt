@@ -1,13 +1,9 @@
 -- Both loops scan: the outer one, from the first cell that may clash, for the first cell whose key is taken, the inner one for a lower cell that has it.
-use mathlib.Core.Path.{refl}
 use Prim.Native.Nat.{◌-◌}
 use lib.ListN.{get_or}
 use lib.Dec.{eqb}
-use borrow.Author.Tests.{eq-eqb, ne_eqb}
-use borrow.Author.Rules.{rules}
-use Rattle.sheet.proofs.Scan.{Scanned, scan_stops_at, some_found, scan, scans}
+use Rattle.sheet.proofs.Scan.{Scanned}
 use Rattle.clashes.specs.passes.Keys.{key_taken}
-use Rattle.clashes.proofs.Keys.{scanned_to}
 use Rattle.clashes.proofs.first_taken.Given as goal
 
 abbrev pub invariant-loop-j : goal.invariant-loop-j

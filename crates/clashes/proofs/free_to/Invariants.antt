@@ -1,8 +1,6 @@
 -- No cell before i has a lower one's key, and the keys of all of them are marked: a key without a mark was not met.
 use Prim.Native.Nat.{◌-◌}
-use native.Mathlib.Omega.{arith}
-use borrow.Author.Rules.{rules}
-use Rattle.clashes.proofs.Keys.{Marked, mark_starts, mark_goes}
+use Rattle.clashes.proofs.Keys.{Marked}
 use Rattle.clashes.proofs.free_to.Given as goal
 
 abbrev pub invariant-loop-i : goal.invariant-loop-i

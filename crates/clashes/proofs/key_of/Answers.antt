@@ -1,7 +1,5 @@
 -- A cell that passes the tests has kind 1 or 2, so the difference does not wrap, and with its LAB and LE in range the sum stays below 32,768.
-use Rattle.clashes.proofs.Keys.{tests_tell, read_key, read_none}
-use native.Mathlib.Omega.{arith}
-use borrow.Author.Rules.{rules}
+use Rattle.clashes.proofs.Keys.{read_key, read_none}
 use Rattle.clashes.proofs.key_of.Goals as goal
 
 pub returns-then-room-combinational : goal.returns-then-room-combinational

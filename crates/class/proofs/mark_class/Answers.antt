@@ -1,7 +1,5 @@
 -- A refusal leaves all as it was; otherwise what was prepared serves each answer, and the rows of all answers are stored.
-use Rattle.judge.proofs.Preparing.{drivers_size}
 use Rattle.class.proofs.Marking.{class_refused, class_marked}
-use borrow.Author.Rules.{rules}
 use Rattle.class.proofs.mark_class.Goals as goal
 
 pub returns-then-number-ne0-clause-told : goal.returns-then-number-ne0-clause-told

@@ -1,9 +1,5 @@
 -- The loop's invariant: the walk stands where the length of answer i does, and the rows of the answers before it are stored.
-use Prim.Native.Nat.{◌-◌}
-use Rattle.class.specs.Class.{answer_of}
-use Rattle.class.specs.passes.Rows.{row_from}
-use Rattle.class.proofs.Marking.{Stored, store_starts, store_goes, store_length, store_ends}
-use borrow.Author.Rules.{rules}
+use Rattle.class.proofs.Marking.{store_starts, store_goes}
 use Rattle.class.proofs.put_rows.Goals as goal
 
 pub loop-i-init : goal.loop-i-init

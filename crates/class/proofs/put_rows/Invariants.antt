@@ -2,8 +2,7 @@
 use Prim.Native.Nat.{◌-◌}
 use Rattle.class.specs.Class.{answer_of}
 use Rattle.class.specs.passes.Rows.{row_from}
-use Rattle.class.proofs.Marking.{Stored, store_starts, store_goes, store_length, store_ends}
-use borrow.Author.Rules.{rules}
+use Rattle.class.proofs.Marking.{Stored}
 use Rattle.class.proofs.put_rows.Given as goal
 
 abbrev pub invariant-loop-i : goal.invariant-loop-i

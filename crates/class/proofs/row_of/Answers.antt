@@ -1,6 +1,5 @@
 -- What is found, each number widened, and the apprentice that goes with it.
 use Rattle.class.proofs.Marking.{row_told}
-use borrow.Author.Rules.{rules}
 use Rattle.class.proofs.row_of.Goals as goal
 
 pub returns : goal.returns

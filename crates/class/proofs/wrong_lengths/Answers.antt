@@ -1,7 +1,5 @@
 -- The loop's invariant: the walk stands where the length of answer i does.
-use Prim.Native.Nat.{◌-◌}
-use Rattle.class.proofs.Marking.{Walked, walk_starts, walk_goes, lengths_told}
-use borrow.Author.Rules.{rules}
+use Rattle.class.proofs.Marking.{walk_starts, walk_goes, lengths_told}
 use Rattle.class.proofs.wrong_lengths.Goals as goal
 
 pub loop-i-init : goal.loop-i-init

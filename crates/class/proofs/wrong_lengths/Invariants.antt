@@ -1,7 +1,6 @@
 -- The loop's invariant: the walk stands where the length of answer i does.
 use Prim.Native.Nat.{◌-◌}
-use Rattle.class.proofs.Marking.{Walked, walk_starts, walk_goes, lengths_told}
-use borrow.Author.Rules.{rules}
+use Rattle.class.proofs.Marking.{Walked}
 use Rattle.class.proofs.wrong_lengths.Given as goal
 
 abbrev pub invariant-loop-i : goal.invariant-loop-i

@@ -1,6 +1,5 @@
 -- Each way out is one law of Steps: the header's number, the count, the length, the first place out of range.
 use Rattle.judge.proofs.Steps.{answer_steps}
-use borrow.Author.Rules.{rules}
 use Rattle.judge.proofs.answer_finding.Goals as goal
 
 pub returns-then-number-ne0 : goal.returns-then-number-ne0

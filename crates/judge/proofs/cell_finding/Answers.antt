@@ -1,6 +1,5 @@
 -- The run over the cells stops at the first that has a number, and that number is read again.
 use Rattle.judge.proofs.Steps.{cell_steps}
-use borrow.Author.Rules.{rules}
 use Rattle.judge.proofs.cell_finding.Goals as goal
 
 pub returns-then-i-cells : goal.returns-then-i-cells

@@ -1,6 +1,5 @@
 -- The tables hold what the pass put there, so the finding is that of 30 to 44.
 use Rattle.judge.proofs.Preparing.{cells_found}
-use borrow.Author.Rules.{rules}
 use Rattle.judge.proofs.cells_finding.Goals as goal
 
 pub returns-clause-found : goal.returns-clause-found

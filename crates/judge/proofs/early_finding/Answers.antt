@@ -1,6 +1,5 @@
 -- What the settings sheet has, otherwise what the exercise has.
 use Rattle.judge.proofs.Preparing.{early_steps}
-use borrow.Author.Rules.{rules}
 use Rattle.judge.proofs.early_finding.Goals as goal
 
 pub returns-then-f-ne0 : goal.returns-then-f-ne0

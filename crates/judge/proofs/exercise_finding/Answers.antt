@@ -1,6 +1,5 @@
 -- Each way out is one law of Steps: the header's number, the first malformed record, the first net that is driven twice.
 use Rattle.judge.proofs.Steps.{exercise_steps}
-use borrow.Author.Rules.{rules}
 use Rattle.judge.proofs.exercise_finding.Goals as goal
 
 pub returns-then-number-ne0 : goal.returns-then-number-ne0

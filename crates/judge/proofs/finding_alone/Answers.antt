@@ -1,8 +1,7 @@
 -- What settings and exercise have, what the answer has, what the cells or the places have: the first that is something.
-use mathlib.Core.Path.{refl, sym, ap, ◌∙◌}
+use mathlib.Core.Path.{sym, ap, ◌∙◌}
 use Rattle.verdict.specs.declared.Finding.{Finding}
 use Rattle.judge.proofs.Preparing.{passed_exercise, alone_early, alone_answer, alone_placed}
-use borrow.Author.Rules.{rules}
 use Rattle.judge.proofs.finding_alone.Goals as goal
 
 pub returns-then-f-ne0 : goal.returns-then-f-ne0

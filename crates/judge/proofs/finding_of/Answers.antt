@@ -1,7 +1,6 @@
 -- What is found up to 51, otherwise what the LABs have; the route and the tries are touched only in the latter case.
 use lib.ListN.{length}
 use Rattle.judge.proofs.Preparing.{finding_stays, finding_goes}
-use borrow.Author.Rules.{rules}
 use Rattle.judge.proofs.finding_of.Goals as goal
 
 pub returns-then-f-ne0-clause-found : goal.returns-then-f-ne0-clause-found

@@ -1,6 +1,5 @@
 -- What was found before the answer, what the answer has, what was found in the cells or the places have: the first that is something.
 use Rattle.judge.proofs.Preparing.{to_51_steps}
-use borrow.Author.Rules.{rules}
 use Rattle.judge.proofs.finding_to_51.Goals as goal
 
 pub returns-then-early-ne0 : goal.returns-then-early-ne0

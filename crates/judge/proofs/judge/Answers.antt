@@ -1,6 +1,5 @@
 -- The verdict of `judge_sheets`, handed out in parts; the culprit lies inside its sheet, so it begins at its start.
 use Rattle.judge.proofs.Steps.{handed_out}
-use borrow.Author.Rules.{rules}
 use Rattle.judge.proofs.judge.Goals as goal
 
 pub returns-clause-place : goal.returns-clause-place

@@ -1,6 +1,5 @@
 -- What is found up to 51, otherwise what the LABs have; the rows are not handed out.
 use Rattle.judge.proofs.Preparing.{found_steps}
-use borrow.Author.Rules.{rules}
 use Rattle.judge.proofs.judge_prepared.Goals as goal
 
 pub returns-then-f-ne0 : goal.returns-then-f-ne0

@@ -5,7 +5,6 @@ use Rattle.verdict.specs.Verdicts.{verdict_of}
 use Rattle.judge.proofs.Preparing.{judge_room, judge_slots, judge_done}
 use mathlib.Core.Path.{ap, ◌∙◌}
 use lib.ListN.{length}
-use borrow.Author.Rules.{rules}
 use Rattle.judge.proofs.judge_sheets.Goals as goal
 
 pub returns-then-route-ne-ROUTE_SIZE-clause-verdict : goal.returns-then-route-ne-ROUTE_SIZE-clause-verdict

@@ -1,6 +1,5 @@
 -- A run that comes to its end leaves the next one to find something.
 use Rattle.judge.proofs.Steps.{place_steps}
-use borrow.Author.Rules.{rules}
 use Rattle.judge.proofs.place_finding.Goals as goal
 
 pub returns-then-shared-cells : goal.returns-then-shared-cells

@@ -1,8 +1,7 @@
 -- Where something is found before the answer, it is found by all checks that no answer changes too; otherwise the cells are asked.
-use mathlib.Core.Path.{refl, sym, ap, ◌∙◌}
+use mathlib.Core.Path.{sym, ap, ◌∙◌}
 use Rattle.verdict.specs.declared.Finding.{Finding}
 use Rattle.judge.proofs.Preparing.{passed_exercise, prepare_stays, prepare_goes}
-use borrow.Author.Rules.{rules}
 use Rattle.judge.proofs.prepare.Goals as goal
 
 pub returns-then-early-ne0-clause-made : goal.returns-then-early-ne0-clause-made

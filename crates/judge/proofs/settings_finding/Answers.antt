@@ -1,6 +1,5 @@
 -- The settings sheet's number, with no cell and no LAB.
 use Rattle.judge.proofs.Preparing.{settings_found}
-use borrow.Author.Rules.{rules}
 use Rattle.judge.proofs.settings_finding.Goals as goal
 
 pub returns : goal.returns

@@ -1,15 +1,11 @@
 -- The loop's invariant: the counts and the marks, with the cells that are left of the list, are those of the whole list. To a cell that is no register
 -- no port counts. Both `return`s stand where no cell is left.
 use Rattle.exercise.specs.passes.Known.{known_at}
-use borrow.Author.Rules.{rules}
 use Prim.Native.Nat.{◌-◌, ◌<◌}
-use mathlib.Core.Path.{◌≡◌, refl, ◌∙◌}
-use native.Mathlib.Omega.{arith}
+use mathlib.Core.Path.{◌≡◌}
 use lib.ListN.{length}
 use Rattle.distinct.specs.passes.Marks.{marking}
-use Rattle.lab_rules.proofs.Steps.{no_register}
-use Rattle.lab_pass.proofs.Linked.{walk_past}
-use Rattle.lab_pass.proofs.Taking.{Taken, take_starts, take_goes, take_ends, walk_all}
+use Rattle.lab_pass.proofs.Taking.{Taken}
 use Rattle.lab_pass.proofs.count_cells.Given as goal
 
 abbrev pub invariant-loop-k : goal.invariant-loop-k

@@ -1,5 +1,4 @@
 -- Of a short list the result is the same with no net counted, and of a longer one the nets are counted, from marks that are lower than the LAB's.
-use borrow.Author.Rules.{rules}
 use Rattle.lab_pass.proofs.Short.{short_tells, long_tells}
 use Rattle.lab_pass.proofs.counted_from.Goals as goal
 

@@ -1,10 +1,7 @@
 -- `lab_pass::is_short` meets its contract. The loop's invariant: the cells that were passed and those that are left are the whole list. Where it answers
 -- true no cell is left, and five were passed at the most; where it answers false six were. Assumes nothing.
-use borrow.Author.Rules.{rules}
 use Prim.Native.Nat.{◌-◌, ◌<◌}
-use native.Mathlib.Omega.{arith}
-use Rattle.lab_pass.proofs.Linked.{walk_past}
-use Rattle.lab_pass.proofs.Short.{Passed, short_starts, short_goes, short_stops, short_ends}
+use Rattle.lab_pass.proofs.Short.{Passed}
 use Rattle.lab_pass.proofs.is_short.Given as goal
 
 abbrev pub invariant-loop-k : goal.invariant-loop-k

@@ -2,8 +2,7 @@
 -- The measure is `i`. Assumes nothing.
 use Prim.Native.Nat.{◌-◌}
 use native.Mathlib.Omega.{arith}
-use borrow.Author.Rules.{rules}
-use Rattle.lab_pass.proofs.Linking.{Linking, link_starts, link_goes, link_ends}
+use Rattle.lab_pass.proofs.Linking.{link_goes, link_ends}
 use Rattle.lab_pass.proofs.link_cells.Goals as goal
 
 pub loop-i-preserved : goal.loop-i-preserved
@@ -12,8 +11,8 @@ loop-i-preserved c =
 
 pub returns-clause-firsts : goal.returns-clause-firsts
 returns-clause-firsts c =
-    let whole =  link_ends _ _ _ _ _ _ _ c.loop-i.invariant c.loop-i-test.false in whole.0
+    let whole = link_ends _ _ _ _ _ _ _ c.loop-i.invariant c.loop-i-test.false in whole.0
 
 pub returns-clause-nexts : goal.returns-clause-nexts
 returns-clause-nexts c =
-    let whole =  link_ends _ _ _ _ _ _ _ c.loop-i.invariant c.loop-i-test.false in whole.1
+    let whole = link_ends _ _ _ _ _ _ _ c.loop-i.invariant c.loop-i-test.false in whole.1

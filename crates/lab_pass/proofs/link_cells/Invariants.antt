@@ -1,9 +1,6 @@
 -- `lab_pass::link_cells` meets its contract. The loop's invariant: linking the cells below `i` to the tables as they are gives the tables of all cells.
 -- The measure is `i`. Assumes nothing.
-use Prim.Native.Nat.{◌-◌}
-use native.Mathlib.Omega.{arith}
-use borrow.Author.Rules.{rules}
-use Rattle.lab_pass.proofs.Linking.{Linking, link_starts, link_goes, link_ends}
+use Rattle.lab_pass.proofs.Linking.{Linking}
 use Rattle.lab_pass.proofs.link_cells.Given as goal
 
 abbrev pub invariant-loop-i : goal.invariant-loop-i

@@ -1,16 +1,12 @@
 -- The loop's invariant: no LAB below `lab` is broken, the bytes and the tries of the occupied ones below are put, `search` holds the result and the tries of the
 -- `previous` counts and nets, and all marks are lower than those of `lab`.
-use mathlib.Core.Path.{◌≡◌, refl, ◌∙◌}
-use Prim.Native.Nat.{◌-◌}
+use mathlib.Core.Path.{refl, ◌∙◌}
 use native.Mathlib.Omega.{arith}
 use lib.ListN.{replicate}
-use Rattle.lab_rules.specs.passes.Counts.{searched}
-use Rattle.lab_pass.proofs.Passing.{Passed, pass_starts, pass_skips, pass_goes, pass_stops, pass_ends}
+use Rattle.lab_pass.proofs.Passing.{pass_starts, pass_skips, pass_goes, pass_stops, pass_ends}
 use Rattle.lab_pass.proofs.Same.{idle_search}
-use Rattle.lab_pass.proofs.Marked.{LowerThan, lower_skips, marks_rise, lower_here, lower_after}
+use Rattle.lab_pass.proofs.Marked.{lower_skips, marks_rise, lower_here, lower_after}
 use Rattle.distinct.proofs.Nets.{lower_none}
-use Rattle.exercise.specs.passes.Known.{known_at}
-use borrow.Author.Rules.{rules}
 use Rattle.lab_pass.proofs.route_labs.Goals as goal
 
 pub loop-lab-init : goal.loop-lab-init
@@ -33,15 +29,14 @@ counted_from-counted-requires-clause-lower c =
     lower_here l.lab _ c.marks_of.ensures _ l.invariant.2
 
 pub loop-lab-preserved-then-same_counted : goal.loop-lab-preserved-then-same_counted
-loop-lab-preserved-then-same_counted c =
-    (
-      pass_goes _ _ _ _ _ _ _ _ _ c.loop-lab.invariant.0 (omega (arith, c.loop-lab-test.true)) _ c.entry-start.ensures c.if-next-start.false
-          (record { result = record { number = 0; bytes = replicate 8 255 }; tries = 0 })
-          (idle_search _ _ _ _ c.same_counted.ensures c.if-same_counted.true c.none.ensures refl _ _ c.counted_from-counted.ensures.told) _ _ refl
-          c.put_row.ensures refl,
-      c.loop-lab.invariant.1,
-      lower_after c.loop-lab.lab _ c.marks_of.ensures _ c.counted_from-counted.ensures.kept,
-    )
+loop-lab-preserved-then-same_counted c = (
+  pass_goes _ _ _ _ _ _ _ _ _ c.loop-lab.invariant.0 (omega (arith, c.loop-lab-test.true)) _ c.entry-start.ensures c.if-next-start.false
+      (record { result = record { number = 0; bytes = replicate 8 255 }; tries = 0 })
+      (idle_search _ _ _ _ c.same_counted.ensures c.if-same_counted.true c.none.ensures refl _ _ c.counted_from-counted.ensures.told) _ _ refl
+      c.put_row.ensures refl,
+  c.loop-lab.invariant.1,
+  lower_after c.loop-lab.lab _ c.marks_of.ensures _ c.counted_from-counted.ensures.kept,
+)
 
 pub returns-then-number-ne0-clause-found : goal.returns-then-number-ne0-clause-found
 returns-then-number-ne0-clause-found c =
@@ -68,4 +63,4 @@ loop-lab-preserved c =
 
 pub returns-clause-found : goal.returns-clause-found
 returns-clause-found c =
-    let whole =  pass_ends _ _ _ _ _ _ _ _ _ c.loop-lab.invariant.0 (omega (arith, c.loop-lab-test.false)) in whole.0
+    let whole = pass_ends _ _ _ _ _ _ _ _ _ c.loop-lab.invariant.0 (omega (arith, c.loop-lab-test.false)) in whole.0

@@ -1,16 +1,11 @@
 -- The loop's invariant: no LAB below `lab` is broken, the bytes and the tries of the occupied ones below are put, `search` holds the result and the tries of the
 -- `previous` counts and nets, and all marks are lower than those of `lab`.
-use mathlib.Core.Path.{◌≡◌, refl, ◌∙◌}
+use mathlib.Core.Path.{◌≡◌}
 use Prim.Native.Nat.{◌-◌}
-use native.Mathlib.Omega.{arith}
-use lib.ListN.{replicate}
 use Rattle.lab_rules.specs.passes.Counts.{searched}
-use Rattle.lab_pass.proofs.Passing.{Passed, pass_starts, pass_skips, pass_goes, pass_stops, pass_ends}
-use Rattle.lab_pass.proofs.Same.{idle_search}
-use Rattle.lab_pass.proofs.Marked.{LowerThan, lower_skips, marks_rise, lower_here, lower_after}
-use Rattle.distinct.proofs.Nets.{lower_none}
+use Rattle.lab_pass.proofs.Passing.{Passed}
+use Rattle.lab_pass.proofs.Marked.{LowerThan}
 use Rattle.exercise.specs.passes.Known.{known_at}
-use borrow.Author.Rules.{rules}
 use Rattle.lab_pass.proofs.route_labs.Given as goal
 
 abbrev pub invariant-loop-lab : goal.invariant-loop-lab

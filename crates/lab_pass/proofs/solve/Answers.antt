@@ -1,6 +1,5 @@
 -- Where the counts and the nets in are those of the LAB before, so are the result and the tries.
 use Rattle.lab_pass.proofs.Same.{same_search}
-use borrow.Author.Rules.{rules}
 use Rattle.lab_pass.proofs.solve.Goals as goal
 
 pub returns-then-same_counted : goal.returns-then-same_counted

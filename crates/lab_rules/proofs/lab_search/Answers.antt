@@ -1,7 +1,6 @@
 -- `lab_rules::lab_search` meets its contract. A broken rule is the result; else the route of the needs that are held decides, and its tries are the LAB's.
 -- Assumes nothing.
 use mathlib.Core.Path.{sym, ◌∙◌}
-use borrow.Author.Rules.{rules}
 use Rattle.lab_rules.proofs.Steps.{broken_search, held_search}
 use Rattle.lab_rules.proofs.lab_search.Goals as goal
 

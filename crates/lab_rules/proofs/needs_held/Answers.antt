@@ -1,6 +1,5 @@
 -- `lab_rules::needs_held` meets its contract: the five roles add their needs one after the other, and there are at most eight.
 -- Assumes nothing.
-use borrow.Author.Rules.{rules}
 use Rattle.lab_rules.proofs.Steps.{needs_are}
 use Rattle.lab_rules.proofs.needs_held.Goals as goal
 

@@ -1,7 +1,6 @@
 -- `lab_rules::with_pair` meets its contract: the clk is chosen as `clock` chooses it, and the code is made of it and of the enable that counts.
 -- Assumes nothing.
 use mathlib.Core.Path.{refl}
-use borrow.Author.Rules.{rules}
 use Rattle.lab_rules.proofs.Steps.{pair_of_clk, pair_of_default, pair_of_none}
 use Rattle.lab_rules.proofs.with_pair.Goals as goal
 

@@ -1,6 +1,5 @@
 -- `lab_rules::with_synchronous` meets its contract: a cell that uses one of the two ports has a pair, made of what it fixes them at.
 -- Assumes nothing.
-use borrow.Author.Rules.{rules}
 use Rattle.lab_rules.proofs.Steps.{pair_used, pair_unused}
 use Rattle.lab_rules.proofs.with_synchronous.Goals as goal
 

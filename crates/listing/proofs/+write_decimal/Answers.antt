@@ -1,7 +1,4 @@
 -- The digits of the quotient by ten, then the remainder. The measure is the number.
-use Prim.Native.Nat.{ℕ, ◌<◌}
-use native.Mathlib.Omega.{arith}
-use borrow.Author.Rules.{rules}
 use Rattle.listing.proofs.Digits.{one_digit, more_digits}
 use Rattle.listing.proofs.+write_decimal.Goals as goal
 

@@ -1,5 +1,4 @@
 -- Its two pieces, one after the other.
-use borrow.Author.Rules.{rules}
 use Rattle.listing.proofs.Writing.{in_a_row}
 use Rattle.listing.proofs.entered.Goals as goal
 

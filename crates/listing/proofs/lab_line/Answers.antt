@@ -1,6 +1,4 @@
 -- The seven pieces of the line, one after the other. The first lie too far back for `omega`: the room of the last comes from those before it.
-use borrow.Author.Rules.{rules}
-use Rattle.listing.proofs.Writing.{◌then◌, same_long, room_after}
 use Rattle.listing.proofs.Lines.{lab_pieces}
 use Rattle.listing.proofs.lab_line.Goals as goal
 

@@ -1,10 +1,7 @@
 -- The loop's invariant: what is left to write are the lines of the marked LABs from `lab` on.
 use Prim.Native.Nat.{◌+◌, ◌*◌, ◌-◌, ◌≤◌}
-use native.Mathlib.Omega.{arith}
-use borrow.Author.Rules.{rules}
 use Rattle.listing.specs.passes.Marks.{lines_from}
-use Rattle.listing.proofs.Writing.{Left, left_starts, left_goes, left_ends}
-use Rattle.listing.proofs.Marked.{lines_step, lines_end}
+use Rattle.listing.proofs.Writing.{Left}
 use Rattle.listing.proofs.lab_lines.Given as goal
 
 abbrev pub invariant-loop-lab : goal.invariant-loop-lab

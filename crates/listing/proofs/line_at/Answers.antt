@@ -1,5 +1,4 @@
 -- The line of a marked LAB, or nothing.
-use borrow.Author.Rules.{rules}
 use Rattle.listing.proofs.Marked.{line_marked, no_line}
 use Rattle.listing.proofs.line_at.Goals as goal
 

@@ -1,5 +1,4 @@
 -- The verdict line, and after it the lines of the marked LABs where the number is 0.
-use borrow.Author.Rules.{rules}
 use Rattle.listing.proofs.Ends.{refused, legal}
 use Rattle.listing.proofs.listing.Goals as goal
 

@@ -1,7 +1,5 @@
 -- The loop's invariant: what the cells from `i` on mark makes the marks of all cells.
-use Prim.Native.Nat.{◌-◌}
-use borrow.Author.Rules.{rules}
-use Rattle.listing.proofs.Marked.{Marking, mark_starts, mark_goes, mark_ends}
+use Rattle.listing.proofs.Marked.{mark_goes, mark_ends}
 use Rattle.listing.proofs.mark_labs.Goals as goal
 
 pub loop-i-preserved : goal.loop-i-preserved

@@ -1,5 +1,4 @@
 -- Its four pieces, one after the other.
-use borrow.Author.Rules.{rules}
 use Rattle.listing.proofs.Writing.{in_a_row}
 use Rattle.listing.proofs.paired.Goals as goal
 

@@ -1,5 +1,4 @@
 -- Past the end of the buffer a store changes nothing.
-use borrow.Author.Rules.{rules}
 use Rattle.listing.proofs.Writing.{byte_in, byte_out}
 use Rattle.listing.proofs.store.Goals as goal
 

@@ -1,5 +1,4 @@
 -- The five pieces of the line, one after the other.
-use borrow.Author.Rules.{rules}
 use Rattle.listing.proofs.Lines.{verdict_pieces}
 use Rattle.listing.proofs.verdict_line.Goals as goal
 

@@ -1,10 +1,6 @@
 -- The loop's invariant: what is left to write is the word from byte `i` on.
-use Prim.Native.Nat.{◌+◌, ◌-◌, ◌≤◌}
-use mathlib.Core.Path.{◌≡◌}
 use native.Mathlib.Omega.{arith}
-use lib.ListN.{length, drop}
-use borrow.Author.Rules.{rules}
-use Rattle.listing.proofs.Writing.{Left, left_starts, byte_goes, bytes_end}
+use Rattle.listing.proofs.Writing.{byte_goes, bytes_end}
 use Rattle.listing.proofs.write_word.Goals as goal
 
 pub loop-i-preserved : goal.loop-i-preserved

@@ -1,13 +1,8 @@
 -- `place` meets its contract. The loop's invariant: what the search finds is what it finds with the entries from e on, its tries are those made and
 -- those that begin with an entry from e on, and what is noted of an entry is that it failed, its kind, and the tries after it. A way that is found gets
 -- this need's entry in front, on the way back; each call has one need fewer left, and none makes more than 19,173,960 tries. Assumes nothing.
-use Prim.Native.Nat.{ℕ, ◌<◌, ◌≤◌, ◌-◌}
-use mathlib.Core.Path.{◌≡◌}
-use mathlib.Core.Logic.{⊎_elim}
-use lib.ListN.{length}
-use Rattle.entries.specs.Table.{ENTRIES}
-use Rattle.route.proofs.Numbers.{low, below, next_le, fits_2, fits_4, fits_next, one_fewer, fewer_than}
-use Rattle.route.proofs.Placing.{Turn, none_left, starts, ends, not_had, one_more_lem, skip_all, skipped, try_all, stops, failed}
+use Rattle.route.proofs.Numbers.{below}
+use Rattle.route.proofs.Placing.{none_left, starts, ends, not_had, one_more_lem, skip_all, skipped, try_all, stops, failed}
 use Rattle.route.proofs.+place.Goals as goal
 use Rattle.route.proofs.+place.Goals.{then-may_have+else-f-lt-ENTRIES+else-rest, else-may_have}
 
@@ -93,11 +88,11 @@ loop-e-preserved t c =
       i.1,
       i.2,
       elim m.branch [
-        then-may_have+else-f-lt-ENTRIES+else-rest w ↦
-          failed a.table a.held a.needs a.n a.at c.loop-e.tries c.loop-e.noted c.loop-e.made c.loop-e.e c.loop-e.invariant.3 c.loop-e-test.true c.may_have.result c.may_have.ensures w.if-may_have.true
-          h.result h.ensures w.place-r.result w.place-r.ensures.found w.place-r.ensures.counted w.if-rest.false w.kind_of.result w.kind_of.ensures m.tries m.noted m.made w.tries-is w.noted-is w.made-is
+        | then-may_have+else-f-lt-ENTRIES+else-rest w ↦
+            failed a.table a.held a.needs a.n a.at c.loop-e.tries c.loop-e.noted c.loop-e.made c.loop-e.e c.loop-e.invariant.3 c.loop-e-test.true c.may_have.result c.may_have.ensures w.if-may_have.true
+            h.result h.ensures w.place-r.result w.place-r.ensures.found w.place-r.ensures.counted w.if-rest.false w.kind_of.result w.kind_of.ensures m.tries m.noted m.made w.tries-is w.noted-is w.made-is
         | else-may_have w ↦
-          not_had a.table a.held a.needs a.n a.at c.loop-e.tries c.loop-e.noted c.loop-e.made c.loop-e.e c.loop-e.invariant.3 c.loop-e-test.true c.may_have.result c.may_have.ensures w.if-may_have.false m.tries m.noted m.made w.tries-is w.noted-is w.made-is
+            not_had a.table a.held a.needs a.n a.at c.loop-e.tries c.loop-e.noted c.loop-e.made c.loop-e.e c.loop-e.invariant.3 c.loop-e-test.true c.may_have.result c.may_have.ensures w.if-may_have.false m.tries m.noted m.made w.tries-is w.noted-is w.made-is
       ],
     )
 

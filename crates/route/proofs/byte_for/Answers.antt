@@ -1,12 +1,8 @@
 -- `byte_for` meets its contract. The loop's invariant: the byte is the entry at `left` among those of the role's needs from need i on.
 -- The list's eight places are in the invariant too, for the reads. Assumes nothing.
-use Prim.Native.Nat.{◌-◌}
-use mathlib.Core.Path.{◌≡◌, refl}
-use mathlib.Core.Logic.{⊎_elim}
-use lib.ListN.{length, get_or, take, length-map}
+use lib.ListN.{take}
 use Rattle.route.specs.Route.{byte_for}
-use Rattle.route.proofs.Numbers.{not_zero, fits_4, fits_next, one_fewer}
-use Rattle.route.proofs.Bytes.{on_from, past_count, past_eight, this_one, one_passed, other_role}
+use Rattle.route.proofs.Bytes.{this_one, one_passed, other_role}
 use Rattle.route.proofs.byte_for.Goals as goal
 use Rattle.route.proofs.byte_for.Goals.{then-need-role+else-left-eq0, else-need-role}
 
@@ -22,11 +18,11 @@ loop-i-preserved c =
     let f = c.loop-i in (
       f.invariant.0,
       elim c.if-need-role.branch [
-        then-need-role+else-left-eq0 w ↦
-          one_passed a.role a.needs.count a.needs.list a.entries f.i f.left f.invariant.0 (byte_for (take a.needs.count a.needs.list) a.entries a.role a.j) f.invariant.1 c.well_formed.1.0.1.0.1 c.loop-i-test.true c.if-count-i.false
-              w.if-need-role.true w.if-left-eq0.false c.if-need-role.left w.left-is
+        | then-need-role+else-left-eq0 w ↦
+            one_passed a.role a.needs.count a.needs.list a.entries f.i f.left f.invariant.0 (byte_for (take a.needs.count a.needs.list) a.entries a.role a.j) f.invariant.1 c.well_formed.1.0.1.0.1 c.loop-i-test.true c.if-count-i.false
+            w.if-need-role.true w.if-left-eq0.false c.if-need-role.left w.left-is
         | else-need-role w ↦
-          other_role a.role a.needs.count a.needs.list a.entries f.i f.left f.invariant.0 (byte_for (take a.needs.count a.needs.list) a.entries a.role a.j) f.invariant.1 c.well_formed.1.0.1.0.1 c.loop-i-test.true c.if-count-i.false
-              w.if-need-role.false c.if-need-role.left w.left-is
+            other_role a.role a.needs.count a.needs.list a.entries f.i f.left f.invariant.0 (byte_for (take a.needs.count a.needs.list) a.entries a.role a.j) f.invariant.1 c.well_formed.1.0.1.0.1 c.loop-i-test.true c.if-count-i.false
+            w.if-need-role.false c.if-need-role.left w.left-is
       ],
     )

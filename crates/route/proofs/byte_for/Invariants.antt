@@ -1,12 +1,10 @@
 -- `byte_for` meets its contract. The loop's invariant: the byte is the entry at `left` among those of the role's needs from need i on.
 -- The list's eight places are in the invariant too, for the reads. Assumes nothing.
 use Prim.Native.Nat.{◌-◌}
-use mathlib.Core.Path.{◌≡◌, refl}
-use mathlib.Core.Logic.{⊎_elim}
-use lib.ListN.{length, get_or, take, length-map}
+use mathlib.Core.Path.{◌≡◌}
+use lib.ListN.{length, get_or, take}
 use Rattle.route.specs.Route.{byte_for}
-use Rattle.route.proofs.Numbers.{not_zero, fits_4, fits_next, one_fewer}
-use Rattle.route.proofs.Bytes.{on_from, past_count, past_eight, this_one, one_passed, other_role}
+use Rattle.route.proofs.Bytes.{on_from}
 use Rattle.route.proofs.byte_for.Given as goal
 
 abbrev pub invariant-loop-i : goal.invariant-loop-i

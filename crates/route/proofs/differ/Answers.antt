@@ -1,8 +1,6 @@
 -- `differ` meets its contract. The loop's invariant: of none of the needs before i is it so. Assumes nothing.
-use Prim.Native.Nat.{◌-◌}
 use Rattle.entries.specs.passes.Entries.{differ_for}
-use Rattle.route.proofs.Numbers.{low, fits_4, fits_next, one_fewer}
-use Rattle.route.proofs.Later.{NoneTo, later_starts, later_goes, later_stops, later_ends}
+use Rattle.route.proofs.Later.{later_goes, later_stops}
 use Rattle.route.proofs.differ.Goals as goal
 
 pub returns-then-differ_for : goal.returns-then-differ_for

@@ -1,8 +1,7 @@
 -- `differ` meets its contract. The loop's invariant: of none of the needs before i is it so. Assumes nothing.
 use Prim.Native.Nat.{◌-◌}
 use Rattle.entries.specs.passes.Entries.{differ_for}
-use Rattle.route.proofs.Numbers.{low, fits_4, fits_next, one_fewer}
-use Rattle.route.proofs.Later.{NoneTo, later_starts, later_goes, later_stops, later_ends}
+use Rattle.route.proofs.Later.{NoneTo}
 use Rattle.route.proofs.differ.Given as goal
 
 abbrev pub invariant-loop-i : goal.invariant-loop-i

@@ -1,5 +1,4 @@
 -- `eight_bytes` meets its contract: each of its bytes is what the call of `byte_for` at its place ensures. Assumes nothing.
-use borrow.Author.Rules.{rules}
 use Rattle.entries.specs.Table.{need_list}
 use Rattle.route.proofs.Bytes.{bytes_are}
 use Rattle.route.proofs.eight_bytes.Goals as goal

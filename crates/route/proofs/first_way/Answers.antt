@@ -1,9 +1,8 @@
 -- `first_way` meets its contract: it is `place` from the first need on with no entry held. A count above eight means the whole list.
 -- Assumes nothing.
 use mathlib.Core.Path.{◌≡◌, refl, ◌∙◌}
-use borrow.Author.Rules.{rules}
 use native.Mathlib.Omega.{arith}
-use lib.ListN.{length, length-map}
+use lib.ListN.{length}
 use Rattle.route.proofs.Whole.{whole, whole_tries, all_eight}
 use Rattle.route.proofs.first_way.Goals as goal
 

@@ -1,7 +1,6 @@
 -- `lab_route` meets its contract. With no needs the way is empty, so each byte is 255; else the bytes are those of the way that `first_way` answers.
 -- Assumes nothing.
 use mathlib.Core.Path.{sym}
-use borrow.Author.Rules.{rules}
 use Rattle.entries.specs.Table.{need_list}
 use Rattle.route.specs.Way.{earliest_way}
 use Rattle.route.proofs.Bytes.{lab_no_needs, lab_way, lab_no_way}

@@ -1,9 +1,7 @@
 -- `serves_others` meets its contract. The loop's invariant: none of the needs before i is of another net and served. Assumes nothing.
-use Prim.Native.Nat.{◌-◌}
 use Rattle.entries.specs.Table.{need_at}
 use Rattle.entries.specs.passes.Entries.{serves_other}
-use Rattle.route.proofs.Numbers.{low, fits_4, fits_next, one_fewer}
-use Rattle.route.proofs.Later.{NoneTo, later_starts, later_goes, later_stops, later_ends}
+use Rattle.route.proofs.Later.{later_goes, later_stops}
 use Rattle.route.proofs.serves_others.Goals as goal
 
 pub returns-then-serves_other : goal.returns-then-serves_other

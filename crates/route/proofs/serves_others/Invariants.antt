@@ -2,8 +2,7 @@
 use Prim.Native.Nat.{◌-◌}
 use Rattle.entries.specs.Table.{need_at}
 use Rattle.entries.specs.passes.Entries.{serves_other}
-use Rattle.route.proofs.Numbers.{low, fits_4, fits_next, one_fewer}
-use Rattle.route.proofs.Later.{NoneTo, later_starts, later_goes, later_stops, later_ends}
+use Rattle.route.proofs.Later.{NoneTo}
 use Rattle.route.proofs.serves_others.Given as goal
 
 abbrev pub invariant-loop-i : goal.invariant-loop-i

@@ -1,7 +1,5 @@
 -- Each row is the one of its byte of flags.
-use mathlib.Core.Path.{◌∙◌}
 use Rattle.settings.proofs.Rows.{eight_rows_lem}
-use borrow.Author.Rules.{rules}
 use Rattle.settings.proofs.entry_table.Goals as goal
 
 pub returns : goal.returns

@@ -1,11 +1,8 @@
 -- The loop's invariant: none of the bytes before i has such a flag.
 use Rattle.sheet.proofs.Scan.{Unmet}
-use Rattle.settings.specs.Settings.{other_flags}
-use Rattle.settings.proofs.Rows.{flag_steps}
 use Prim.Native.Nat.{◌-◌}
 use lib.ListN.{length}
 use lib.Dec.{ltb}
-use borrow.Author.Rules.{rules}
 use Rattle.settings.proofs.has_other_flags.Given as goal
 
 abbrev pub invariant-loop-i : goal.invariant-loop-i

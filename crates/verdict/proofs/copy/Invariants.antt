@@ -1,9 +1,7 @@
 -- `verdict::copy` meets its contract: the bytes before k are those of the rows. Assumes nothing.
 use Prim.Native.Nat.{◌-◌}
-use mathlib.Core.Path.{refl}
 use lib.ListN.{length, get_or}
-use Rattle.sheet.proofs.Filling.{Written, write_starts, write_goes, copy_ends}
-use borrow.Author.Rules.{rules}
+use Rattle.sheet.proofs.Filling.{Written}
 use Rattle.verdict.proofs.copy.Given as goal
 
 abbrev pub invariant-loop-k : goal.invariant-loop-k

@@ -1,6 +1,5 @@
 -- The fault of the number picks the case.
 use Rattle.verdict.proofs.Steps.{culprit_steps}
-use borrow.Author.Rules.{rules}
 use Rattle.verdict.proofs.culprit_of.Goals as goal
 
 pub returns-in-Call : goal.returns-in-Call

@@ -1,10 +1,8 @@
 -- The loop's invariant: none of the numbers before i is the one looked for.
 use Rattle.sheet.proofs.Scan.{Unmet}
-use Rattle.verdict.proofs.Steps.{among_steps}
 use Prim.Native.Nat.{◌-◌}
 use lib.ListN.{length}
 use lib.Dec.{eqb}
-use borrow.Author.Rules.{rules}
 use Rattle.verdict.proofs.is_among.Given as goal
 
 abbrev pub invariant-loop-i : goal.invariant-loop-i

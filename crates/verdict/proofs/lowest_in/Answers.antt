@@ -1,7 +1,5 @@
 -- The loop's invariant: no cell below i stands in the LAB.
-use Rattle.verdict.proofs.Steps.{Lowest, lowest_steps}
-use Prim.Native.Nat.{◌-◌}
-use borrow.Author.Rules.{rules}
+use Rattle.verdict.proofs.Steps.{lowest_steps}
 use Rattle.verdict.proofs.lowest_in.Goals as goal
 
 pub loop-i-init : goal.loop-i-init

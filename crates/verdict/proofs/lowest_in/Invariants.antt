@@ -1,7 +1,6 @@
 -- The loop's invariant: no cell below i stands in the LAB.
-use Rattle.verdict.proofs.Steps.{Lowest, lowest_steps}
+use Rattle.verdict.proofs.Steps.{Lowest}
 use Prim.Native.Nat.{◌-◌}
-use borrow.Author.Rules.{rules}
 use Rattle.verdict.proofs.lowest_in.Given as goal
 
 abbrev pub invariant-loop-i : goal.invariant-loop-i

@@ -6,7 +6,6 @@ use Rattle.verdict.specs.declared.Finding.{Finding}
 use Rattle.verdict.specs.declared.Part.{Part}
 use Rattle.verdict.specs.declared.Verdict.{Verdict}
 use Rattle.verdict.specs.Verdicts.{apprentice_of, culprit_of, verdict_of}
-use borrow.Author.Rules.{rules}
 use Rattle.verdict.proofs.verdict_of.Goals as goal
 
 verdict_is : (e a : List ℕ) (f : Finding) (n : ℕ) (p : Part) → n ≡ apprentice_of a f.number → p ≡ culprit_of e a f

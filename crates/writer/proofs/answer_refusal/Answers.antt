@@ -1,13 +1,12 @@
 -- The checks in their order.
-use borrow.Author.Rules.{rules}
 use mathlib.Core.Path.{refl, sym, ◌∙◌}
 use lib.ListN.{length}
 use lib.Dec.{eqb}
-use borrow.Author.Tests.{eq-eqb, ne_eqb}
+use borrow.Author.Tests.{ne_eqb}
 use Rattle.sheet.proofs.Laws.{passes, stops}
 use Rattle.answer.specs.Answer.{place_start}
 use Rattle.writer.specs.Answers.{placement, answer_refusal}
-use Rattle.writer.proofs.Outcome.{says_2, says_13, goes_on, any_out}
+use Rattle.writer.proofs.Outcome.{goes_on, any_out}
 use Rattle.writer.proofs.answer_refusal.Goals as goal
 
 pub returns-then-some_off_board : goal.returns-then-some_off_board

@@ -1,9 +1,7 @@
 -- The sheet stands in front of a buffer of its own, and is judged there.
-use borrow.Author.Rules.{rules}
-use mathlib.Core.Path.{sym, ap, ◌∙◌}
-use lib.ListN.{length}
+use mathlib.Core.Path.{ap, ◌∙◌}
 use Rattle.writer.specs.Exercises.{netlist, records_number}
-use Rattle.writer.proofs.Sheets.{exercise_length, nets_back}
+use Rattle.writer.proofs.Sheets.{nets_back}
 use Rattle.writer.proofs.Outcome.{sheet_in_front}
 use Rattle.writer.proofs.cells_number.Goals as goal
 

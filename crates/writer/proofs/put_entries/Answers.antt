@@ -1,12 +1,11 @@
 -- The loop's invariant: the first i bytes are stored.
-use borrow.Author.Rules.{rules}
-use Prim.Native.Nat.{ℕ, ◌+◌, ◌-◌}
+use Prim.Native.Nat.{ℕ, ◌+◌}
 use mathlib.Core.Path.{refl, ap, ◌∙◌}
 use mathlib.Core.List.{[], ◌∷◌}
 use native.Mathlib.Omega.{arith}
-use lib.ListN.{length, get_or}
+use lib.ListN.{get_or}
 use lib.Seq.{sets}
-use Rattle.writer.proofs.Putting.{Stored, store_starts, store_goes, store_ends, bytes_joined}
+use Rattle.writer.proofs.Putting.{store_goes, store_ends, bytes_joined}
 use Rattle.writer.proofs.put_entries.Goals as goal
 
 pub loop-i-preserved : goal.loop-i-preserved

@@ -1,12 +1,8 @@
 -- The loop's invariant: the first i bytes are stored.
-use borrow.Author.Rules.{rules}
-use Prim.Native.Nat.{ℕ, ◌+◌, ◌-◌}
-use mathlib.Core.Path.{refl, ap, ◌∙◌}
+use Prim.Native.Nat.{ℕ, ◌-◌}
 use mathlib.Core.List.{[], ◌∷◌}
-use native.Mathlib.Omega.{arith}
-use lib.ListN.{length, get_or}
-use lib.Seq.{sets}
-use Rattle.writer.proofs.Putting.{Stored, store_starts, store_goes, store_ends, bytes_joined}
+use lib.ListN.{length}
+use Rattle.writer.proofs.Putting.{Stored}
 use Rattle.writer.proofs.put_entries.Given as goal
 
 abbrev pub invariant-loop-i : goal.invariant-loop-i

@@ -1,11 +1,10 @@
 -- The loop's invariant: the records of the first i places are stored.
-use borrow.Author.Rules.{rules}
-use Prim.Native.Nat.{◌+◌, ◌*◌, ◌-◌}
+use Prim.Native.Nat.{◌+◌, ◌*◌}
 use mathlib.Core.Path.{refl}
 use mathlib.Core.List.{[]}
-use lib.ListN.{length, get_or}
+use lib.ListN.{get_or}
 use Rattle.writer.specs.passes.Put.{cut_bytes}
-use Rattle.writer.proofs.Putting.{cut_size, Stored, store_starts, store_goes, store_ends}
+use Rattle.writer.proofs.Putting.{cut_size, store_goes}
 use Rattle.writer.proofs.put_places.Goals as goal
 
 pub loop-i-preserved : goal.loop-i-preserved

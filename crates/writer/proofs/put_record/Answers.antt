@@ -1,13 +1,12 @@
 -- The loop's invariant: the first j of the twelve numbers are stored.
-use borrow.Author.Rules.{rules}
-use Prim.Native.Nat.{ℕ, ◌+◌, ◌*◌, ◌-◌}
+use Prim.Native.Nat.{ℕ, ◌+◌, ◌*◌}
 use mathlib.Core.Path.{refl, ap, sym}
 use lib.ListN.{get_or}
 use Rattle.sheet.specs.Lists.{below}
 use Rattle.sheet.proofs.Lists.{below_at}
 use Rattle.sheet.specs.Bytes.{u16_bytes}
 use Rattle.exercise.specs.Record.{record_bytes}
-use Rattle.writer.proofs.Putting.{Stored, store_starts, store_goes, store_ends}
+use Rattle.writer.proofs.Putting.{store_goes, store_ends}
 use Rattle.writer.proofs.put_record.Goals as goal
 
 pub loop-j-preserved : goal.loop-j-preserved

@@ -1,13 +1,9 @@
 -- The loop's invariant: the first j of the twelve numbers are stored.
-use borrow.Author.Rules.{rules}
-use Prim.Native.Nat.{ℕ, ◌+◌, ◌*◌, ◌-◌}
-use mathlib.Core.Path.{refl, ap, sym}
+use Prim.Native.Nat.{◌-◌}
 use lib.ListN.{get_or}
 use Rattle.sheet.specs.Lists.{below}
-use Rattle.sheet.proofs.Lists.{below_at}
 use Rattle.sheet.specs.Bytes.{u16_bytes}
-use Rattle.exercise.specs.Record.{record_bytes}
-use Rattle.writer.proofs.Putting.{Stored, store_starts, store_goes, store_ends}
+use Rattle.writer.proofs.Putting.{Stored}
 use Rattle.writer.proofs.put_record.Given as goal
 
 abbrev pub invariant-loop-j : goal.invariant-loop-j

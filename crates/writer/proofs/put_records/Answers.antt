@@ -1,12 +1,11 @@
 -- The loop's invariant: the records of the first i cells are stored.
-use borrow.Author.Rules.{rules}
-use Prim.Native.Nat.{◌+◌, ◌*◌, ◌-◌}
+use Prim.Native.Nat.{◌+◌, ◌*◌}
 use mathlib.Core.Path.{refl}
 use mathlib.Core.List.{[]}
-use lib.ListN.{length, get_or}
+use lib.ListN.{get_or}
 use Rattle.exercise.specs.Record.{record_bytes}
 use Rattle.writer.proofs.Sheets.{record_size}
-use Rattle.writer.proofs.Putting.{Stored, store_starts, store_goes, store_ends}
+use Rattle.writer.proofs.Putting.{store_goes}
 use Rattle.writer.proofs.put_records.Goals as goal
 
 pub loop-i-preserved : goal.loop-i-preserved

@@ -1,12 +1,8 @@
 -- The loop's invariant: the records of the first i cells are stored.
-use borrow.Author.Rules.{rules}
-use Prim.Native.Nat.{◌+◌, ◌*◌, ◌-◌}
-use mathlib.Core.Path.{refl}
-use mathlib.Core.List.{[]}
-use lib.ListN.{length, get_or}
+use Prim.Native.Nat.{◌-◌}
+use lib.ListN.{length}
 use Rattle.exercise.specs.Record.{record_bytes}
-use Rattle.writer.proofs.Sheets.{record_size}
-use Rattle.writer.proofs.Putting.{Stored, store_starts, store_goes, store_ends}
+use Rattle.writer.proofs.Putting.{Stored}
 use Rattle.writer.proofs.put_records.Given as goal
 
 abbrev pub invariant-loop-i : goal.invariant-loop-i

@@ -1,14 +1,10 @@
 -- Mark and version, the count, and in version 2 the board's number, one after the other.
-use borrow.Author.Rules.{rules}
 use mathlib.Core.Path.{refl, ap, ◌∙◌}
 use mathlib.Core.List.{[], ◌∷◌}
-use native.Mathlib.Omega.{arith}
-use lib.ListN.{length, length-set}
 use lib.Seq.{sets}
 use Rattle.sheet.specs.Bytes.{u16_bytes}
 use Rattle.writer.specs.passes.Put.{mark_bytes}
 use Rattle.writer.proofs.Putting.{then_put, counted, head_numbered, head_plain}
-use Rattle.writer.proofs.Rooms.{six_fit, eight_fit}
 use Rattle.writer.proofs.put_settings_head.Goals as goal
 
 pub returns-then-version-eq2 : goal.returns-then-version-eq2

@@ -1,5 +1,4 @@
 -- 15 by the first malformed record, 16 by the first double driver.
-use borrow.Author.Rules.{rules}
 use Rattle.writer.proofs.Judged.{says_15, says_16, says_0}
 use Rattle.writer.proofs.records_number.Goals as goal
 

@@ -1,5 +1,4 @@
 -- The checks in their order.
-use borrow.Author.Rules.{rules}
 use Rattle.writer.specs.Boards.{board}
 use Rattle.writer.proofs.BoardChecks.{says_72, says_73, says_75, says_2, says_0}
 use Rattle.writer.proofs.settings_refusal.Goals as goal

@@ -1,10 +1,7 @@
 -- The loop's invariant: none of the places before i is out of range.
-use borrow.Author.Rules.{rules}
 use Prim.Native.Nat.{◌-◌}
-use mathlib.Core.Path.{sym, ◌∙◌}
-use mathlib.Core.List.{[]}
 use lib.ListN.{length}
-use Rattle.sheet.proofs.Scan.{Unmet, unmet_starts, unmet_goes, unmet_stops, unmet_ends}
+use Rattle.sheet.proofs.Scan.{Unmet}
 use Rattle.writer.specs.passes.Put.{off_board}
 use Rattle.writer.proofs.some_off_board.Given as goal
 

@@ -1,11 +1,10 @@
 -- A refusal changes nothing; otherwise the sheet is stored from the start on.
-use borrow.Author.Rules.{rules}
 use mathlib.Core.Path.{sym, ◌∙◌}
 use native.Mathlib.Omega.{arith}
 use lib.ListN.{length}
 use Rattle.writer.specs.Boards.{board, settings_sheet}
 use Rattle.writer.proofs.Sheets.{settings_length}
-use Rattle.writer.proofs.Outcome.{refused, accepted}
+use Rattle.writer.proofs.Outcome.{accepted}
 use Rattle.writer.proofs.BoardChecks.{settings_fit}
 use Rattle.writer.proofs.write_settings.Goals as goal
 
@@ -23,7 +22,7 @@ settings_length-requires c =
 
 pub returns-clause-told : goal.returns-clause-told
 returns-clause-told c =
-    let whole =  let x = board c.args.version c.args.number c.args.entries.now in
+    let whole = let x = board c.args.version c.args.number c.args.entries.now in
     let free = c.if-refusal-ne0.false in
     let fit = settings_fit x (length c.args.out.now) (sym c.settings_refusal-refusal.ensures ∙ free) in
     let size = c.settings_length.ensures in
@@ -32,7 +31,7 @@ returns-clause-told c =
 
 pub returns-clause-written : goal.returns-clause-written
 returns-clause-written c =
-    let whole =  let x = board c.args.version c.args.number c.args.entries.now in
+    let whole = let x = board c.args.version c.args.number c.args.entries.now in
     let free = c.if-refusal-ne0.false in
     let fit = settings_fit x (length c.args.out.now) (sym c.settings_refusal-refusal.ensures ∙ free) in
     let size = c.settings_length.ensures in

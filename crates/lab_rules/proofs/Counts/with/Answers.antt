@@ -1,6 +1,5 @@
 -- `lab_rules::Counts::with` meets its contract: a register is counted by `with_register`, and to the other cells no port counts.
 -- Assumes nothing.
-use borrow.Author.Rules.{rules}
 use Rattle.lab_rules.proofs.Steps.{no_register}
 use Rattle.lab_rules.proofs.Counts.with.Goals as goal
 

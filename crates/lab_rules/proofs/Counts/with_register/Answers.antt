@@ -1,6 +1,5 @@
 -- `lab_rules::Counts::with_register` meets its contract: each counter takes what its own port gives.
 -- Assumes nothing.
-use borrow.Author.Rules.{rules}
 use Rattle.lab_rules.specs.Ports.{clk, aclr, needed}
 use Rattle.lab_rules.proofs.Steps.{counted_there, register_counted}
 use Rattle.lab_rules.proofs.Counts.with_register.Goals as goal
