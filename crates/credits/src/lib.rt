@@ -197,7 +197,8 @@ fn credit(log: &[u8], keys: &mut [u64], rows: &mut [Credit], numbers: &mut [u16]
 {
     sort_keys(log, keys);
     let apprentices = count_apprentices(log, keys);
-    if tablet_log::MAX_APPRENTICES < apprentices {
+    let many = tablet_log::MAX_APPRENTICES < apprentices;
+    if many {
         return refused(86);
     }
     fill_rows(log, keys, rows);

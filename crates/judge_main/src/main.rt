@@ -49,7 +49,12 @@ fn show(rt: &impl Print, exercise: &[u8], answer: &[u8]) -> io::Result<()> {
 }
 
 // Writes the listing on the board of a settings sheet to standard output.
-fn show_on_settings(rt: &impl Print, settings: &[u8], exercise: &[u8], answer: &[u8]) -> io::Result<()> {
+fn show_on_settings(
+    rt: &impl Print,
+    settings: &[u8],
+    exercise: &[u8],
+    answer: &[u8],
+) -> io::Result<()> {
     let mut out = [0u8; listing::MOST];
     let n = listing::listing(settings, exercise, answer, &mut out);
     rt.write_all(&out[..n])

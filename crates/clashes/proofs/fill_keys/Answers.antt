@@ -9,7 +9,7 @@ loop-i-init c =
 
 pub returns-then-key-clause-found : goal.returns-then-key-clause-found
 returns-then-key-clause-found c =
-    let whole = fill_stops _ _ _ _ _ _ c.loop-i.invariant c.loop-i-test.true _ c.key_of-key.ensures c.if-key.true in whole.0
+    (fill_stops _ _ _ _ _ _ c.loop-i.invariant c.loop-i-test.true _ c.key_of-key.ensures c.if-key.true).0
 
 pub bounds-keys-i : goal.bounds-keys-i
 bounds-keys-i c =
@@ -21,4 +21,4 @@ loop-i-preserved c =
 
 pub returns-clause-found : goal.returns-clause-found
 returns-clause-found c =
-    let whole = fill_ends _ _ _ _ _ _ c.loop-i.invariant c.loop-i-test.false in whole.0
+    (fill_ends _ _ _ _ _ _ c.loop-i.invariant c.loop-i-test.false).0

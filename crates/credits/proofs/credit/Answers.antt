@@ -12,26 +12,23 @@ count_apprentices-apprentices-requires c =
     let p = c.requires in
     keys_few _ p.log_value _ (c.sort_keys.auto.keys ∙ p.keys_len)
 
-pub returns-then-apprentices-gt-MAX_APPRENTICES-clause-told : goal.returns-then-apprentices-gt-MAX_APPRENTICES-clause-told
-returns-then-apprentices-gt-MAX_APPRENTICES-clause-told c =
-    let whole =
+pub returns-then-many-clause-told : goal.returns-then-many-clause-told
+returns-then-many-clause-told c =
     let p = c.requires in
-    refused_many c.args.log.now c.args.rows.now c.args.numbers.now p.rows_len p.numbers_len p.log_value _ _ p.keys_len c.sort_keys.ensures _ c.count_apprentices-apprentices.ensures _
-    c.if-apprentices-gt-MAX_APPRENTICES.true c.refused.ensures in whole.0
+    (refused_many c.args.log.now c.args.rows.now c.args.numbers.now p.rows_len p.numbers_len p.log_value _ _ p.keys_len c.sort_keys.ensures _ c.count_apprentices-apprentices.ensures _
+    c.if-many.true c.refused.ensures).0
 
-pub returns-then-apprentices-gt-MAX_APPRENTICES-clause-minutes : goal.returns-then-apprentices-gt-MAX_APPRENTICES-clause-minutes
-returns-then-apprentices-gt-MAX_APPRENTICES-clause-minutes c =
-    let whole =
+pub returns-then-many-clause-minutes : goal.returns-then-many-clause-minutes
+returns-then-many-clause-minutes c =
     let p = c.requires in
-    refused_many c.args.log.now c.args.rows.now c.args.numbers.now p.rows_len p.numbers_len p.log_value _ _ p.keys_len c.sort_keys.ensures _ c.count_apprentices-apprentices.ensures _
-    c.if-apprentices-gt-MAX_APPRENTICES.true c.refused.ensures in whole.1.0
+    (refused_many c.args.log.now c.args.rows.now c.args.numbers.now p.rows_len p.numbers_len p.log_value _ _ p.keys_len c.sort_keys.ensures _ c.count_apprentices-apprentices.ensures _
+    c.if-many.true c.refused.ensures).1.0
 
-pub returns-then-apprentices-gt-MAX_APPRENTICES-clause-listed : goal.returns-then-apprentices-gt-MAX_APPRENTICES-clause-listed
-returns-then-apprentices-gt-MAX_APPRENTICES-clause-listed c =
-    let whole =
+pub returns-then-many-clause-listed : goal.returns-then-many-clause-listed
+returns-then-many-clause-listed c =
     let p = c.requires in
-    refused_many c.args.log.now c.args.rows.now c.args.numbers.now p.rows_len p.numbers_len p.log_value _ _ p.keys_len c.sort_keys.ensures _ c.count_apprentices-apprentices.ensures _
-    c.if-apprentices-gt-MAX_APPRENTICES.true c.refused.ensures in whole.1.1
+    (refused_many c.args.log.now c.args.rows.now c.args.numbers.now p.rows_len p.numbers_len p.log_value _ _ p.keys_len c.sort_keys.ensures _ c.count_apprentices-apprentices.ensures _
+    c.if-many.true c.refused.ensures).1.1
 
 pub fill_rows-requires : goal.fill_rows-requires
 fill_rows-requires c =
@@ -40,21 +37,18 @@ fill_rows-requires c =
 
 pub returns-clause-told : goal.returns-clause-told
 returns-clause-told c =
-    let whole =
     let p = c.requires in
-    lists_filled c.args.log.now c.args.rows.now c.args.numbers.now p.rows_len p.numbers_len p.log_value _ _ p.keys_len c.sort_keys.ensures _ c.count_apprentices-apprentices.ensures _ _ _ _
-    c.if-apprentices-gt-MAX_APPRENTICES.false c.fill_rows.ensures c.entry_count.ensures c.list_empty-listed.ensures.filled c.list_empty-listed.ensures.written in whole.0
+    (lists_filled c.args.log.now c.args.rows.now c.args.numbers.now p.rows_len p.numbers_len p.log_value _ _ p.keys_len c.sort_keys.ensures _ c.count_apprentices-apprentices.ensures _ _ _ _
+    c.if-many.false c.fill_rows.ensures c.entry_count.ensures c.list_empty-listed.ensures.filled c.list_empty-listed.ensures.written).0
 
 pub returns-clause-minutes : goal.returns-clause-minutes
 returns-clause-minutes c =
-    let whole =
     let p = c.requires in
-    lists_filled c.args.log.now c.args.rows.now c.args.numbers.now p.rows_len p.numbers_len p.log_value _ _ p.keys_len c.sort_keys.ensures _ c.count_apprentices-apprentices.ensures _ _ _ _
-    c.if-apprentices-gt-MAX_APPRENTICES.false c.fill_rows.ensures c.entry_count.ensures c.list_empty-listed.ensures.filled c.list_empty-listed.ensures.written in whole.1.0
+    (lists_filled c.args.log.now c.args.rows.now c.args.numbers.now p.rows_len p.numbers_len p.log_value _ _ p.keys_len c.sort_keys.ensures _ c.count_apprentices-apprentices.ensures _ _ _ _
+    c.if-many.false c.fill_rows.ensures c.entry_count.ensures c.list_empty-listed.ensures.filled c.list_empty-listed.ensures.written).1.0
 
 pub returns-clause-listed : goal.returns-clause-listed
 returns-clause-listed c =
-    let whole =
     let p = c.requires in
-    lists_filled c.args.log.now c.args.rows.now c.args.numbers.now p.rows_len p.numbers_len p.log_value _ _ p.keys_len c.sort_keys.ensures _ c.count_apprentices-apprentices.ensures _ _ _ _
-    c.if-apprentices-gt-MAX_APPRENTICES.false c.fill_rows.ensures c.entry_count.ensures c.list_empty-listed.ensures.filled c.list_empty-listed.ensures.written in whole.1.1
+    (lists_filled c.args.log.now c.args.rows.now c.args.numbers.now p.rows_len p.numbers_len p.log_value _ _ p.keys_len c.sort_keys.ensures _ c.count_apprentices-apprentices.ensures _ _ _ _
+    c.if-many.false c.fill_rows.ensures c.entry_count.ensures c.list_empty-listed.ensures.filled c.list_empty-listed.ensures.written).1.1

@@ -6,57 +6,48 @@ use Rattle.credits.proofs.minutes.Goals as goal
 
 pub returns-then-rows-ne-ROWS-clause-told : goal.returns-then-rows-ne-ROWS-clause-told
 returns-then-rows-ne-ROWS-clause-told c =
-    let whole =
     let a = c.args in
-    refused_rows a.log.now a.rows.now a.numbers.now _ c.refused.ensures c.if-rows-ne-ROWS.true in whole.0
+    (refused_rows a.log.now a.rows.now a.numbers.now _ c.refused.ensures c.if-rows-ne-ROWS.true).0
 
 pub returns-then-rows-ne-ROWS-clause-minutes : goal.returns-then-rows-ne-ROWS-clause-minutes
 returns-then-rows-ne-ROWS-clause-minutes c =
-    let whole =
     let a = c.args in
-    refused_rows a.log.now a.rows.now a.numbers.now _ c.refused.ensures c.if-rows-ne-ROWS.true in whole.1.0
+    (refused_rows a.log.now a.rows.now a.numbers.now _ c.refused.ensures c.if-rows-ne-ROWS.true).1.0
 
 pub returns-then-rows-ne-ROWS-clause-listed : goal.returns-then-rows-ne-ROWS-clause-listed
 returns-then-rows-ne-ROWS-clause-listed c =
-    let whole =
     let a = c.args in
-    refused_rows a.log.now a.rows.now a.numbers.now _ c.refused.ensures c.if-rows-ne-ROWS.true in whole.1.1
+    (refused_rows a.log.now a.rows.now a.numbers.now _ c.refused.ensures c.if-rows-ne-ROWS.true).1.1
 
 pub returns-then-numbers-ne-ENTRY_NUMBERS-clause-told : goal.returns-then-numbers-ne-ENTRY_NUMBERS-clause-told
 returns-then-numbers-ne-ENTRY_NUMBERS-clause-told c =
-    let whole =
     let a = c.args in
-    refused_numbers a.log.now a.rows.now a.numbers.now _ c.refused-then-numbers-ne-ENTRY_NUMBERS.ensures c.if-rows-ne-ROWS.false c.if-numbers-ne-ENTRY_NUMBERS.true in whole.0
+    (refused_numbers a.log.now a.rows.now a.numbers.now _ c.refused-then-numbers-ne-ENTRY_NUMBERS.ensures c.if-rows-ne-ROWS.false c.if-numbers-ne-ENTRY_NUMBERS.true).0
 
 pub returns-then-numbers-ne-ENTRY_NUMBERS-clause-minutes : goal.returns-then-numbers-ne-ENTRY_NUMBERS-clause-minutes
 returns-then-numbers-ne-ENTRY_NUMBERS-clause-minutes c =
-    let whole =
     let a = c.args in
-    refused_numbers a.log.now a.rows.now a.numbers.now _ c.refused-then-numbers-ne-ENTRY_NUMBERS.ensures c.if-rows-ne-ROWS.false c.if-numbers-ne-ENTRY_NUMBERS.true in whole.1.0
+    (refused_numbers a.log.now a.rows.now a.numbers.now _ c.refused-then-numbers-ne-ENTRY_NUMBERS.ensures c.if-rows-ne-ROWS.false c.if-numbers-ne-ENTRY_NUMBERS.true).1.0
 
 pub returns-then-numbers-ne-ENTRY_NUMBERS-clause-listed : goal.returns-then-numbers-ne-ENTRY_NUMBERS-clause-listed
 returns-then-numbers-ne-ENTRY_NUMBERS-clause-listed c =
-    let whole =
     let a = c.args in
-    refused_numbers a.log.now a.rows.now a.numbers.now _ c.refused-then-numbers-ne-ENTRY_NUMBERS.ensures c.if-rows-ne-ROWS.false c.if-numbers-ne-ENTRY_NUMBERS.true in whole.1.1
+    (refused_numbers a.log.now a.rows.now a.numbers.now _ c.refused-then-numbers-ne-ENTRY_NUMBERS.ensures c.if-rows-ne-ROWS.false c.if-numbers-ne-ENTRY_NUMBERS.true).1.1
 
 pub returns-then-number-ne0-clause-told : goal.returns-then-number-ne0-clause-told
 returns-then-number-ne0-clause-told c =
-    let whole =
     let a = c.args in
-    refused_log a.log.now a.rows.now a.numbers.now c.if-rows-ne-ROWS.false c.if-numbers-ne-ENTRY_NUMBERS.false _ _ c.log_number-number.ensures c.if-number-ne0.true c.refused-then-number-ne0.ensures in whole.0
+    (refused_log a.log.now a.rows.now a.numbers.now c.if-rows-ne-ROWS.false c.if-numbers-ne-ENTRY_NUMBERS.false _ _ c.log_number-number.ensures c.if-number-ne0.true c.refused-then-number-ne0.ensures).0
 
 pub returns-then-number-ne0-clause-minutes : goal.returns-then-number-ne0-clause-minutes
 returns-then-number-ne0-clause-minutes c =
-    let whole =
     let a = c.args in
-    refused_log a.log.now a.rows.now a.numbers.now c.if-rows-ne-ROWS.false c.if-numbers-ne-ENTRY_NUMBERS.false _ _ c.log_number-number.ensures c.if-number-ne0.true c.refused-then-number-ne0.ensures in whole.1.0
+    (refused_log a.log.now a.rows.now a.numbers.now c.if-rows-ne-ROWS.false c.if-numbers-ne-ENTRY_NUMBERS.false _ _ c.log_number-number.ensures c.if-number-ne0.true c.refused-then-number-ne0.ensures).1.0
 
 pub returns-then-number-ne0-clause-listed : goal.returns-then-number-ne0-clause-listed
 returns-then-number-ne0-clause-listed c =
-    let whole =
     let a = c.args in
-    refused_log a.log.now a.rows.now a.numbers.now c.if-rows-ne-ROWS.false c.if-numbers-ne-ENTRY_NUMBERS.false _ _ c.log_number-number.ensures c.if-number-ne0.true c.refused-then-number-ne0.ensures in whole.1.1
+    (refused_log a.log.now a.rows.now a.numbers.now c.if-rows-ne-ROWS.false c.if-numbers-ne-ENTRY_NUMBERS.false _ _ c.log_number-number.ensures c.if-number-ne0.true c.refused-then-number-ne0.ensures).1.1
 
 pub slice_bounds-keys-end : goal.slice_bounds-keys-end
 slice_bounds-keys-end c =

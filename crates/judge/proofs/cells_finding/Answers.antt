@@ -4,6 +4,5 @@ use Rattle.judge.proofs.cells_finding.Goals as goal
 
 pub returns-clause-found : goal.returns-clause-found
 returns-clause-found c =
-    let whole =
-    cells_found c.args.exercise.now _ _ _ _ _ _ c.requires.passed c.requires.blank c.cell_count-cells.ensures
-    c.fill_tables.ensures.counted c.fill_tables.ensures.read c.fill_tables.ensures.driven c.cell_finding.ensures in whole.0
+    (cells_found c.args.exercise.now _ _ _ _ _ _ c.requires.passed c.requires.blank c.cell_count-cells.ensures
+    c.fill_tables.ensures.counted c.fill_tables.ensures.read c.fill_tables.ensures.driven c.cell_finding.ensures).0

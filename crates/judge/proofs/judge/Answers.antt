@@ -4,10 +4,9 @@ use Rattle.judge.proofs.judge.Goals as goal
 
 pub returns-clause-place : goal.returns-clause-place
 returns-clause-place c =
-    let whole =
     let v = c.judge_sheets-v in
     let s = c.args in
-    handed_out s.settings.now s.exercise.now s.answer.now s.route.now v.new.route s.tries.now v.new.tries v.result
+    (handed_out s.settings.now s.exercise.now s.answer.now s.route.now v.new.route s.tries.now v.new.tries v.result
     c.part_of.result.now s.exercise.ref_ptr s.answer.ref_ptr c.part_of.result.ref_ptr _ _ _
     v.ensures.verdict v.ensures.routes v.ensures.counts c.part_of.ensures.bytes c.part_of.ensures.place
-    c.wide8-number.ensures c.wide16-cell.ensures c.wide16-lab.ensures in whole.1.0
+    c.wide8-number.ensures c.wide16-cell.ensures c.wide16-lab.ensures).1.0

@@ -6,13 +6,11 @@ use Rattle.judge.proofs.prepare.Goals as goal
 
 pub returns-then-early-ne0-clause-made : goal.returns-then-early-ne0-clause-made
 returns-then-early-ne0-clause-made c =
-    let whole =
-    prepare_stays c.args.settings.now c.args.exercise.now _ c.early_finding-early.ensures c.if-early-ne0.true in whole.0
+    (prepare_stays c.args.settings.now c.args.exercise.now _ c.early_finding-early.ensures c.if-early-ne0.true).0
 
 pub returns-then-early-ne0-clause-filled : goal.returns-then-early-ne0-clause-filled
 returns-then-early-ne0-clause-filled c =
-    let whole =
-    prepare_stays c.args.settings.now c.args.exercise.now _ c.early_finding-early.ensures c.if-early-ne0.true in whole.1
+    (prepare_stays c.args.settings.now c.args.exercise.now _ c.early_finding-early.ensures c.if-early-ne0.true).1
 
 pub cells_finding-fixed-requires-clause-passed : goal.cells_finding-fixed-requires-clause-passed
 cells_finding-fixed-requires-clause-passed c =
@@ -20,12 +18,10 @@ cells_finding-fixed-requires-clause-passed c =
 
 pub returns-clause-made : goal.returns-clause-made
 returns-clause-made c =
-    let whole =
-    prepare_goes c.args.settings.now c.args.exercise.now _ c.early_finding-early.ensures _ _ c.if-early-ne0.false
-    c.cells_finding-fixed.ensures.found c.cells_finding-fixed.ensures.filled in whole.0
+    (prepare_goes c.args.settings.now c.args.exercise.now _ c.early_finding-early.ensures _ _ c.if-early-ne0.false
+    c.cells_finding-fixed.ensures.found c.cells_finding-fixed.ensures.filled).0
 
 pub returns-clause-filled : goal.returns-clause-filled
 returns-clause-filled c =
-    let whole =
-    prepare_goes c.args.settings.now c.args.exercise.now _ c.early_finding-early.ensures _ _ c.if-early-ne0.false
-    c.cells_finding-fixed.ensures.found c.cells_finding-fixed.ensures.filled in whole.1
+    (prepare_goes c.args.settings.now c.args.exercise.now _ c.early_finding-early.ensures _ _ c.if-early-ne0.false
+    c.cells_finding-fixed.ensures.found c.cells_finding-fixed.ensures.filled).1

@@ -10,15 +10,13 @@ use Rattle.lab_pass.proofs.count_cells.Goals as goal
 
 pub returns-then-next-at-clause-counted : goal.returns-then-next-at-clause-counted
 returns-then-next-at-clause-counted c =
-    let whole =
     let l = c.loop-k in
-    take_ends _ _ _ _ _ _ _ _ _ _ _ l.invariant.0 (walk_past _ l.at (512 - l.k) c.if-next-at.true) in whole.0
+    (take_ends _ _ _ _ _ _ _ _ _ _ _ l.invariant.0 (walk_past _ l.at (512 - l.k) c.if-next-at.true)).0
 
 pub returns-then-next-at-clause-marked : goal.returns-then-next-at-clause-marked
 returns-then-next-at-clause-marked c =
-    let whole =
     let l = c.loop-k in
-    take_ends _ _ _ _ _ _ _ _ _ _ _ l.invariant.0 (walk_past _ l.at (512 - l.k) c.if-next-at.true) in whole.1
+    (take_ends _ _ _ _ _ _ _ _ _ _ _ l.invariant.0 (walk_past _ l.at (512 - l.k) c.if-next-at.true)).1
 
 pub loop-k-preserved-in_default : goal.loop-k-preserved-in_default
 loop-k-preserved-in_default c = (
@@ -38,12 +36,10 @@ loop-k-preserved c = (
 
 pub returns-clause-counted : goal.returns-clause-counted
 returns-clause-counted c =
-    let whole =
     let l = c.loop-k in
-    take_ends _ _ _ _ _ _ _ _ _ _ _ l.invariant.0 (walk_all _ l.at 512 l.k (omega (arith, c.loop-k-test.false))) in whole.0
+    (take_ends _ _ _ _ _ _ _ _ _ _ _ l.invariant.0 (walk_all _ l.at 512 l.k (omega (arith, c.loop-k-test.false)))).0
 
 pub returns-clause-marked : goal.returns-clause-marked
 returns-clause-marked c =
-    let whole =
     let l = c.loop-k in
-    take_ends _ _ _ _ _ _ _ _ _ _ _ l.invariant.0 (walk_all _ l.at 512 l.k (omega (arith, c.loop-k-test.false))) in whole.1
+    (take_ends _ _ _ _ _ _ _ _ _ _ _ l.invariant.0 (walk_all _ l.at 512 l.k (omega (arith, c.loop-k-test.false)))).1

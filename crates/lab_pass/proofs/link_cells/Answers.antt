@@ -11,8 +11,8 @@ loop-i-preserved c =
 
 pub returns-clause-firsts : goal.returns-clause-firsts
 returns-clause-firsts c =
-    let whole = link_ends _ _ _ _ _ _ _ c.loop-i.invariant c.loop-i-test.false in whole.0
+    (link_ends _ _ _ _ _ _ _ c.loop-i.invariant c.loop-i-test.false).0
 
 pub returns-clause-nexts : goal.returns-clause-nexts
 returns-clause-nexts c =
-    let whole = link_ends _ _ _ _ _ _ _ c.loop-i.invariant c.loop-i-test.false in whole.1
+    (link_ends _ _ _ _ _ _ _ c.loop-i.invariant c.loop-i-test.false).1

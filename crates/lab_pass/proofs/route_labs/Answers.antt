@@ -40,17 +40,15 @@ loop-lab-preserved-then-same_counted c = (
 
 pub returns-then-number-ne0-clause-found : goal.returns-then-number-ne0-clause-found
 returns-then-number-ne0-clause-found c =
-    let whole =
     let l = c.loop-lab in
-    pass_stops _ _ _ _ _ _ _ _ _ l.invariant.0 (omega (arith, c.loop-lab-test.true)) _ c.entry-start.ensures c.if-next-start.false c.solve-search.result
-    (c.solve-search.ensures ∙ c.counted_from-counted.ensures.told.told _) c.if-number-ne0.true _ refl in whole.0
+    (pass_stops _ _ _ _ _ _ _ _ _ l.invariant.0 (omega (arith, c.loop-lab-test.true)) _ c.entry-start.ensures c.if-next-start.false c.solve-search.result
+    (c.solve-search.ensures ∙ c.counted_from-counted.ensures.told.told _) c.if-number-ne0.true _ refl).0
 
 pub returns-then-number-ne0-clause-counted : goal.returns-then-number-ne0-clause-counted
 returns-then-number-ne0-clause-counted c =
-    let whole =
     let l = c.loop-lab in
-    pass_stops _ _ _ _ _ _ _ _ _ l.invariant.0 (omega (arith, c.loop-lab-test.true)) _ c.entry-start.ensures c.if-next-start.false c.solve-search.result
-    (c.solve-search.ensures ∙ c.counted_from-counted.ensures.told.told _) c.if-number-ne0.true _ refl in whole.1.1
+    (pass_stops _ _ _ _ _ _ _ _ _ l.invariant.0 (omega (arith, c.loop-lab-test.true)) _ c.entry-start.ensures c.if-next-start.false c.solve-search.result
+    (c.solve-search.ensures ∙ c.counted_from-counted.ensures.told.told _) c.if-number-ne0.true _ refl).1.1
 
 pub loop-lab-preserved : goal.loop-lab-preserved
 loop-lab-preserved c =
@@ -63,4 +61,4 @@ loop-lab-preserved c =
 
 pub returns-clause-found : goal.returns-clause-found
 returns-clause-found c =
-    let whole = pass_ends _ _ _ _ _ _ _ _ _ c.loop-lab.invariant.0 (omega (arith, c.loop-lab-test.false)) in whole.0
+    (pass_ends _ _ _ _ _ _ _ _ _ c.loop-lab.invariant.0 (omega (arith, c.loop-lab-test.false))).0

@@ -14,12 +14,12 @@ put_answer-requires c =
 
 pub returns-clause-told : goal.returns-clause-told
 returns-clause-told c =
-    let whole = let x = placement c.args.apprentice c.args.places.now in
+    let x = placement c.args.apprentice c.args.places.now in
     let fit = answer_fits x (length c.args.out.now) (sym c.answer_refusal-number.ensures ∙ c.if-number-ne0.false) in
-    accepted _ _ (answer_sheet x) c.args.out.now c.answer_refusal-number.ensures _ _ c.if-number-ne0.false (answer_length x) fit.roomy (c.put_answer.ensures ∙ ap (sets c.args.out.now 0) (cut_same x fit.placed)) in whole.0
+    (accepted _ _ (answer_sheet x) c.args.out.now c.answer_refusal-number.ensures _ _ c.if-number-ne0.false (answer_length x) fit.roomy (c.put_answer.ensures ∙ ap (sets c.args.out.now 0) (cut_same x fit.placed))).0
 
 pub returns-clause-written : goal.returns-clause-written
 returns-clause-written c =
-    let whole = let x = placement c.args.apprentice c.args.places.now in
+    let x = placement c.args.apprentice c.args.places.now in
     let fit = answer_fits x (length c.args.out.now) (sym c.answer_refusal-number.ensures ∙ c.if-number-ne0.false) in
-    accepted _ _ (answer_sheet x) c.args.out.now c.answer_refusal-number.ensures _ _ c.if-number-ne0.false (answer_length x) fit.roomy (c.put_answer.ensures ∙ ap (sets c.args.out.now 0) (cut_same x fit.placed)) in whole.1
+    (accepted _ _ (answer_sheet x) c.args.out.now c.answer_refusal-number.ensures _ _ c.if-number-ne0.false (answer_length x) fit.roomy (c.put_answer.ensures ∙ ap (sets c.args.out.now 0) (cut_same x fit.placed))).1

@@ -13,12 +13,12 @@ put_exercise-requires c =
 
 pub returns-clause-told : goal.returns-clause-told
 returns-clause-told c =
-    let whole = let x = netlist c.args.nets c.args.cells.now in
+    let x = netlist c.args.nets c.args.cells.now in
     let fit = exercise_fits x (length c.args.out.now) (sym c.exercise_refusal-number.ensures ∙ c.if-number-ne0.false) in
-    accepted _ _ (exercise_sheet x) c.args.out.now c.exercise_refusal-number.ensures _ _ c.if-number-ne0.false (exercise_length x) fit.roomy c.put_exercise.ensures in whole.0
+    (accepted _ _ (exercise_sheet x) c.args.out.now c.exercise_refusal-number.ensures _ _ c.if-number-ne0.false (exercise_length x) fit.roomy c.put_exercise.ensures).0
 
 pub returns-clause-written : goal.returns-clause-written
 returns-clause-written c =
-    let whole = let x = netlist c.args.nets c.args.cells.now in
+    let x = netlist c.args.nets c.args.cells.now in
     let fit = exercise_fits x (length c.args.out.now) (sym c.exercise_refusal-number.ensures ∙ c.if-number-ne0.false) in
-    accepted _ _ (exercise_sheet x) c.args.out.now c.exercise_refusal-number.ensures _ _ c.if-number-ne0.false (exercise_length x) fit.roomy c.put_exercise.ensures in whole.1
+    (accepted _ _ (exercise_sheet x) c.args.out.now c.exercise_refusal-number.ensures _ _ c.if-number-ne0.false (exercise_length x) fit.roomy c.put_exercise.ensures).1

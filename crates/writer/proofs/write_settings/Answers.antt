@@ -22,18 +22,18 @@ settings_length-requires c =
 
 pub returns-clause-told : goal.returns-clause-told
 returns-clause-told c =
-    let whole = let x = board c.args.version c.args.number c.args.entries.now in
+    let x = board c.args.version c.args.number c.args.entries.now in
     let free = c.if-refusal-ne0.false in
     let fit = settings_fit x (length c.args.out.now) (sym c.settings_refusal-refusal.ensures ∙ free) in
     let size = c.settings_length.ensures in
-    accepted _ _ (settings_sheet x) c.args.out.now c.settings_refusal-refusal.ensures _ _ free
-    (settings_length x ∙ sym size) (rw size fit.roomy) c.put_settings.ensures in whole.0
+    (accepted _ _ (settings_sheet x) c.args.out.now c.settings_refusal-refusal.ensures _ _ free
+    (settings_length x ∙ sym size) (rw size fit.roomy) c.put_settings.ensures).0
 
 pub returns-clause-written : goal.returns-clause-written
 returns-clause-written c =
-    let whole = let x = board c.args.version c.args.number c.args.entries.now in
+    let x = board c.args.version c.args.number c.args.entries.now in
     let free = c.if-refusal-ne0.false in
     let fit = settings_fit x (length c.args.out.now) (sym c.settings_refusal-refusal.ensures ∙ free) in
     let size = c.settings_length.ensures in
-    accepted _ _ (settings_sheet x) c.args.out.now c.settings_refusal-refusal.ensures _ _ free
-    (settings_length x ∙ sym size) (rw size fit.roomy) c.put_settings.ensures in whole.1
+    (accepted _ _ (settings_sheet x) c.args.out.now c.settings_refusal-refusal.ensures _ _ free
+    (settings_length x ∙ sym size) (rw size fit.roomy) c.put_settings.ensures).1
