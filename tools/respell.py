@@ -16,7 +16,7 @@ DECLARED = re.compile(
 # Names of the library that a lemma's name may join by a dash.
 LIBRARY = set("length take drop set get_or getD map filter cond eqb leb ltb replicate append zip sum slice rev "
               "reverse div mod max min not suc div rem ap concat foldl foldr any all".split())
-KEEP = re.compile(r"^(returns|overflow|bounds|loop|holds|again|falls|measure|invariant|inv|μ)([-_].*)?$")
+KEEP = re.compile(r"^(returns|overflow|bounds|loop|invariant|μ)([-_].*)?$")
 
 
 def antt():

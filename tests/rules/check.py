@@ -145,8 +145,8 @@ faults.extend(f"no must-fail edit {name}, listed under the table" for name in ot
 faults.extend(f"must-fail edit {name} stands in the table and under it" for name in others if name in named["edits"])
 faults.extend(f"must-fail edit {name} is left out" for name in sorted(edits - named["edits"] - set(others)))
 
-# ---- what a reader believes: all that stands directly in specs/ is listed. None of it names what serves the proofs alone, but for the statements that tie
-# a pass to a definition
+# ---- what a reader believes: all that stands directly in specs/ is listed. None of it names what serves the proofs alone, but for the two statements that
+# tie a pass to a definition, which stand in a list of their own
 READING = "docs/READING.md"
 
 
@@ -156,10 +156,12 @@ def spec_files(page):
 
 believed = {path for path in CRATES.glob("*/specs/*.antt") if path.stem not in ("Lib", "passes")}
 listed = spec_files(text(TOP / READING))
-ties = spec_files("\n".join(section(READING, "Where a pass meets a definition")))
+ties = {CRATES / "route/specs/Found.antt", CRATES / "judge/specs/Serves.antt"}
 faults.extend(f"{READING} leaves out {path.relative_to(TOP)}" for path in sorted(believed - listed))
 faults.extend(f"{READING} lists {path.relative_to(TOP)}, which is not to be believed" for path in sorted(listed - believed))
 faults.extend(f"{path.relative_to(TOP)} names a definition of specs/passes/" for path in sorted(believed - ties) if ".passes." in text(path))
+if spec_files("\n".join(section(READING, "Where a pass meets a definition"))) != ties:
+    faults.append(f"{READING} lists other files where a pass meets a definition")
 
 # the edits that are named exist
 for name in re.findall(r"`(\w+/\w+)`", "\n".join(section(READING, "What shuts out a wrong program"))):

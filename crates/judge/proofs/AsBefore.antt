@@ -19,7 +19,7 @@ passed_over r ys zs = refl
 module _ (e a : List ℕ) (r : ℕ) where
   found_same : first_broken (checks (on_house e a r)) ≡ first_broken (checks_of01 e a r)
   unfolding checks checks_to51 lab_group checks_of01
-  found_same = rw house.holds-board (passed_over r (sheet_checks e a) _)
+  found_same = rw house.holds_board (passed_over r (sheet_checks e a) _)
 
   verdict_same : judged (on_house e a r) ≡ judged_by01 e a r
   unfolding judged judged_by01
@@ -27,7 +27,7 @@ module _ (e a : List ℕ) (r : ℕ) where
 
   route_same : (before : List ℕ) → routed (on_house e a r) before ≡ routed_by01 e a r before
   unfolding routed routed_by01 route_bytes
-  route_same before = rw (verdict_same, house.holds-board)
+  route_same before = rw (verdict_same, house.holds_board)
 
 -- 65, 70 to 75
 pub as_before : AsBefore

@@ -11,7 +11,7 @@ use std::{fs, io, str};
 // Room for the largest sheet of these cases.
 const SHEET_ROOM: usize = 512;
 
-// Reads until buf is full, the input ends or a read fails, and answers how many bytes came.
+// Reads until buf is full, the input ends or a read fails, and returns how many bytes came.
 fn fill(input: &mut impl Read, buf: &mut [u8]) -> usize
     ensures in_bounds { result ≤ length buf.new }
     ensures len { length buf.new ≡ length buf.old }
@@ -26,7 +26,7 @@ fn fill(input: &mut impl Read, buf: &mut [u8]) -> usize
     done
 }
 
-// Fills buf with a case's sheet, whose name ends in this letter, and answers how many bytes came: none where it is missing.
+// Fills buf with a case's sheet, whose name ends in this letter, and returns how many bytes came: none where it is missing.
 fn read_sheet(rt: &impl Files, case: u8, letter: u8, buf: &mut [u8]) -> usize
     requires { case < 100 }
     ensures in_bounds { result ≤ length buf.new }

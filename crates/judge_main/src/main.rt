@@ -15,7 +15,7 @@ const EXERCISE_ROOM: usize = 12298;
 
 const ANSWER_ROOM: usize = 2060;
 
-// Reads until buf is full, the input ends or a read fails, and answers how many bytes came.
+// Reads until buf is full, the input ends or a read fails, and returns how many bytes came.
 fn fill(input: &mut impl Read, buf: &mut [u8]) -> usize
     ensures in_bounds { result ≤ length buf.new }
     ensures len { length buf.new ≡ length buf.old }
@@ -30,7 +30,7 @@ fn fill(input: &mut impl Read, buf: &mut [u8]) -> usize
     done
 }
 
-// Fills buf with the start of a file and answers how many bytes came: none where it is missing or can't be read.
+// Fills buf with the start of a file and returns how many bytes came: none where it is missing or can't be read.
 fn read_sheet(rt: &impl Files, path: &str, buf: &mut [u8]) -> usize
     ensures in_bounds { result ≤ length buf.new }
     ensures len { length buf.new ≡ length buf.old }
@@ -41,23 +41,30 @@ fn read_sheet(rt: &impl Files, path: &str, buf: &mut [u8]) -> usize
     }
 }
 
-// Writes the listing on the board of document 01 to standard output.
-fn show(rt: &impl Print, exercise: &[u8], answer: &[u8]) -> io::Result<()> {
+// Writes the listing of an exercise and an answer on the board of a settings sheet to standard output.
+fn show(rt: &impl Print, settings: &[u8], exercise: &[u8], answer: &[u8]) -> io::Result<()> {
+    let mut out = [0u8; listing::MOST];
+    let n = listing::listing(settings, exercise, answer, &mut out);
+    rt.write_all(&out[..n])
+}
+
+// The same on the board of document 01.
+fn show_on_house(rt: &impl Print, exercise: &[u8], answer: &[u8]) -> io::Result<()> {
     let mut out = [0u8; listing::MOST];
     let n = listing::house_listing(exercise, answer, &mut out);
     rt.write_all(&out[..n])
 }
 
-// Writes the listing on the board of a settings sheet to standard output.
-fn show_on_settings(
-    rt: &impl Print,
-    settings: &[u8],
-    exercise: &[u8],
-    answer: &[u8],
-) -> io::Result<()> {
-    let mut out = [0u8; listing::MOST];
-    let n = listing::listing(settings, exercise, answer, &mut out);
-    rt.write_all(&out[..n])
+// Writes the listing of the sheets in the current directory, on the board of the settings sheet where one is given.
+fn judge_folder(rt: &(impl Files + Print), settings: Option<&[u8]>) -> io::Result<()> {
+    let mut exercise = [0u8; EXERCISE_ROOM];
+    let mut answer = [0u8; ANSWER_ROOM];
+    let n = read_sheet(rt, "exercise.lxe", &mut exercise);
+    let m = read_sheet(rt, "answer.lxa", &mut answer);
+    match settings {
+        Some(sheet) => show(rt, sheet, &exercise[..n], &answer[..m]),
+        None => show_on_house(rt, &exercise[..n], &answer[..m]),
+    }
 }
 
 // Whether the program was started with the word --settings.
@@ -70,14 +77,10 @@ fn wants_settings(rt: &impl Env) -> bool {
 }
 
 fn main(rt: HostRuntime) -> io::Result<()> {
-    let mut exercise = [0u8; EXERCISE_ROOM];
-    let mut answer = [0u8; ANSWER_ROOM];
-    let n = read_sheet(&rt, "exercise.lxe", &mut exercise);
-    let m = read_sheet(&rt, "answer.lxa", &mut answer);
     if wants_settings(&rt) {
         let mut settings = [0u8; SETTINGS_ROOM];
-        let k = fill(&mut rt.reader(), &mut settings);
-        return show_on_settings(&rt, &settings[..k], &exercise[..n], &answer[..m]);
+        let n = fill(&mut rt.reader(), &mut settings);
+        return judge_folder(&rt, Some(&settings[..n]));
     }
-    show(&rt, &exercise[..n], &answer[..m])
+    judge_folder(&rt, None)
 }

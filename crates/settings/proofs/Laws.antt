@@ -49,4 +49,4 @@ same_table s h = rows_serve (table_of s) (table_rows s h)
 
 pub house : House
 unfolding house_settings settings_number wrong_mark wrong_settings_length other_flags table_of house_board
-house = record { passes = refl; of_version_1 = refl; holds-board = refl }
+house = record { passes = refl; of_version_1 = refl; holds_board = refl }

@@ -11,4 +11,4 @@ house_settings = 76 ∷ 88 ∷ 84 ∷ 1 ∷ 0 ∷ 6 ∷ 1 ∷ 5 ∷ 3 ∷ 18 ∷
 pub record House : Type 0 where
   pub passes : settings_number house_settings ≡ 0
   pub of_version_1 : version house_settings ≡ 1
-  pub holds-board : table_of house_settings ≡ house_board
+  pub holds_board : table_of house_settings ≡ house_board
