@@ -1,11 +1,9 @@
 -- The answer: "`LXA`, version 1 (16 bits), apprentice (32 bits, not 0), cell count (16), then 4 bytes a cell". Assumes nothing.
-use Rattle.std.specs.Prelude.{ℕ, ◌+◌, ◌*◌, Bool, cond, not, ◌||◌, List, [], ◌∷◌, length, eqb, ltb}
+use Rattle.std.specs.Prelude.{ℕ, ◌+◌, ◌*◌, Bool, cond, not, ◌||◌, List, [], ◌∷◌, Option, Some, None, length, eqb, ltb}
 use Rattle.sheet.specs.Bytes.{byte_at, u16_at, u32_at, part_at}
 use Rattle.sheet.specs.Checks.{Check, check, first_number}
 use Rattle.sheet.specs.Header.{wrong_mark, wrong_version}
 use Rattle.answer.specs.declared.Place.{Place}
-use Rattle.answer.specs.declared.Placed.{Placed}
-use Rattle.answer.specs.declared.Placed.TheVariants.{At, OutOfRange}
 
 -- read from the answer sheet only
 abbrev pub apprentice : List ℕ → ℕ
@@ -55,15 +53,15 @@ breaks_place p = not (eqb (length p) 4) || out_of_range p
 abbrev pub place_fields : List ℕ → List ℕ
 place_fields p = byte_at p 0 ∷ byte_at p 1 ∷ byte_at p 2 ∷ []
 
--- what a place record says. A part that is not 4 bytes long is no place
-unfoldable pub placed_of : List ℕ → Placed
+-- what a place record says, none where it is out of range. A part that is not 4 bytes long is no place
+unfoldable pub placed_of : List ℕ → Option Place
 placed_of p =
-    cond (not (eqb (length p) 4)) OutOfRange
-    (cond (out_of_range p) OutOfRange
-    (At (record { x = byte_at p 0; y = byte_at p 1; le = byte_at p 2 })))
+    cond (not (eqb (length p) 4)) None
+    (cond (out_of_range p) None
+    (Some (record { x = byte_at p 0; y = byte_at p 1; le = byte_at p 2 })))
 
 -- where the answer puts cell i
-unfoldable pub placed_at : List ℕ → ℕ → Placed
+unfoldable pub placed_at : List ℕ → ℕ → Option Place
 placed_at a i = placed_of (place_part a i)
 
 -- x, y and LE of a place
@@ -71,11 +69,11 @@ abbrev pub place_values : Place → List ℕ
 place_values p = p.x ∷ p.y ∷ p.le ∷ []
 
 -- document 01's number for each case of a place record, 0 for a place: 26, "x, y, LE or the zero byte out of range"
-abbrev pub placed_number : Placed → ℕ
-placed_number (At p) = 0
-placed_number OutOfRange = 26
+abbrev pub placed_number : Option Place → ℕ
+placed_number (Some p) = 0
+placed_number None = 26
 
 -- its values for each case: those of the place, none where it is out of range
-abbrev pub placed_values : Placed → List ℕ
-placed_values (At p) = place_values p
-placed_values OutOfRange = []
+abbrev pub placed_values : Option Place → List ℕ
+placed_values (Some p) = place_values p
+placed_values None = []

@@ -15,11 +15,11 @@ use Rattle.exercise.specs.Record.{record_values, is_malformed}
 use Rattle.exercise.specs.declared.Record.{Record}
 use Rattle.exercise.specs.declared.Record.TheVariants as Kind
 use Rattle.answer.specs.Answer.{place_count, placed_at, placed_values}
-use Rattle.answer.specs.declared.Placed.{Placed}
-use Rattle.answer.specs.declared.Placed.TheVariants as Spot
+use Rattle.answer.specs.declared.Place.{Place}
+use Rattle.std.specs.Prelude.{Option, Some, None}
 use Rattle.tables.specs.Records.{cell, malformed}
 use Rattle.placing.specs.Places.{is_out_of_range, out_of_range_at}
-use Rattle.reader.specs.Reader.{step_of, exercise_step_at, place_step_of, answer_step_at}
+use Rattle.reader.specs.Reader.{step_at, step_of, exercise_step_at, place_step_of, answer_step_at}
 use Rattle.writer.specs.Exercises.{packed, record_checks, records_number, netlist_of, ExercisePasses}
 use Rattle.writer.specs.Answers.{placement_of, AnswerPasses}
 use Rattle.settings.specs.Settings.{flags, settings_numbers, settings_entries}
@@ -36,19 +36,19 @@ cell_given (Kind.Combinational c) h = (refl, refl)
 cell_given (Kind.Register c) h = (refl, refl)
 cell_given Kind.Malformed h = absurd (true≢false h)
 
-place_given : (p : Placed) → is_out_of_range p ≡ false → (place_told (place_step_of p) ≡ 0) × (place_fields (place_step_of p) ≡ placed_values p)
-place_given (Spot.At p) h = (refl, refl)
-place_given Spot.OutOfRange h = absurd (true≢false h)
+place_given : (p : Option Place) → is_out_of_range p ≡ false → (place_told (place_step_of p) ≡ 0) × (place_fields (place_step_of p) ≡ placed_values p)
+place_given (Some p) h = (refl, refl)
+place_given None h = absurd (true≢false h)
 
 -- ---- a sheet
 module _ (e : List ℕ) (formed : anyb (malformed e) (below (cell_count e)) ≡ false) (i : ℕ) (l : i < cell_count e) where
   cell_read : (cell_told (exercise_step_at e i) ≡ 0) × (cell_fields (exercise_step_at e i) ≡ record_values (cell e i))
-  unfolding exercise_step_at malformed cell
+  unfolding step_at malformed cell
   cell_read = rw (lt-leb (cell_count e) i l) (cell_given (cell e i) (none_at (malformed e) (cell_count e) formed i l))
 
 module _ (a : List ℕ) (placed : anyb (out_of_range_at a) (below (place_count a)) ≡ false) (i : ℕ) (l : i < place_count a) where
   place_read : (place_told (answer_step_at a i) ≡ 0) × (place_fields (answer_step_at a i) ≡ placed_values (placed_at a i))
-  unfolding answer_step_at out_of_range_at
+  unfolding step_at out_of_range_at
   place_read = rw (lt-leb (place_count a) i l) (place_given (placed_at a i) (none_at (out_of_range_at a) (place_count a) placed i l))
 
 cells_read : (e : List ℕ) → ExercisePasses e → CellsRead e (netlist_of e)

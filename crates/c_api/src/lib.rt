@@ -1,6 +1,7 @@
 #![tactic(auto)]
 
-ghost use Rattle.std.specs.Prelude.{◌≡◌, cond, ◌+◌, ◌*◌, length};
+ghost use Rattle.std.specs.Prelude.{◌≡◌, cond, ◌+◌, ◌*◌, length, ◌∷◌};
+ghost use Rattle.sheet.specs.Refusals.{told_number};
 ghost use Rattle.settings.specs.Settings.{settings_number, settings_numbers, settings_entries};
 ghost use Rattle.settings.specs.House.{house_settings};
 ghost use Rattle.judge.specs.Call.{call};
@@ -8,53 +9,36 @@ ghost use Rattle.judge.specs.Judge.{judged, routed, tried};
 ghost use Rattle.class.specs.Class.{marked, rows_after};
 ghost use Rattle.tablet_log.specs.Credited.{credited, credits_after, numbers_after};
 ghost use Rattle.exercise.specs.Exercise.{exercise_number};
-ghost use Rattle.exercise.specs.Record.{combinational_values, register_values};
 ghost use Rattle.answer.specs.Answer.{opening_number, place_values};
-ghost use Rattle.reader.specs.Reader.{exercise_step_at, next_exercise, answer_step_at, next_answer};
+ghost use Rattle.reader.specs.Reader.{logic_cell_values, exercise_step_at, next_exercise, answer_step_at, next_answer};
 ghost use Rattle.list_check.specs.ListCheck.{list_verdict};
 ghost use Rattle.writer.specs.Writing.{told, buffer_after};
 ghost use Rattle.writer.specs.Exercises.{netlist, exercise_sheet, exercise_refusal, packed};
 ghost use Rattle.writer.specs.Answers.{placement, answer_sheet, answer_refusal};
 ghost use Rattle.writer.specs.Boards.{board, settings_sheet, settings_refusal};
-ghost use Rattle.c_api.specs.Told.{seven_numbers, cell_told, cell_fields, place_told, place_fields};
+ghost use Rattle.c_api.specs.Told.{seven_numbers, step_told, cell_told, cell_fields, place_told, place_fields};
 
 use answer::Place;
 use class::Row;
-use exercise::{Cell, CombinationalCell, RegisterCell};
-use lab_rules::LabResult;
-use reader::{AnswerStep, ExerciseStep};
-use tablet_log::Credit;
+use exercise::Cell;
+use reader::{AnswerSheet, AnswerStep, ExerciseSheet, ExerciseStep, LogicCell, Sheet, Step};
+use sheet::Refusal;
+use tablet_log::{Credit, Filled};
 use writer::CellPlace;
 
-fn wide8(n: u8) -> u64
-    ensures { result ≡ n }
-{
-    n as u64
-}
+const NONE_FILLED: Filled = Filled {
+    rows: 0,
+    entries: 0,
+};
 
-fn wide16(n: u16) -> u64
-    ensures { result ≡ n }
+// The number of a refusal, 0 where nothing is refused.
+fn told<T: Copy>(outcome: Result<T, Refusal>) -> u8
+    ensures { result ≡ told_number outcome }
 {
-    n as u64
-}
-
-fn wide32(n: u32) -> u64
-    ensures { result ≡ n }
-{
-    n as u64
-}
-
-fn wide(n: usize) -> u64
-    ensures { result ≡ n }
-{
-    n as u64
-}
-
-// 1 for the answer, 0 for the exercise.
-fn sheet_number(of_answer: bool) -> u64
-    ensures { result ≡ cond of_answer 1 0 }
-{
-    if of_answer { 1 } else { 0 }
+    match outcome {
+        Ok(_) => 0,
+        Err(refusal) => refusal.number(),
+    }
 }
 
 // Judges an exercise and an answer on the board of a settings sheet. Asks nothing of the contents: sheets of any bytes, a route buffer and a list of tries of
@@ -74,15 +58,15 @@ pub extern "C" fn nurimkkot_judge(
     ensures told { numbers.new ≡ seven_numbers (judged (call settings.now exercise.now answer.now (length route.old) (length tries.old))) }
 {
     let v = judge::judge_sheets(settings, exercise, answer, route, tries);
-    let culprit = v.culprit;
-    let number = wide8(v.number);
-    let cell = wide16(v.cell);
-    let lab = wide16(v.lab);
-    let apprentice = wide32(v.apprentice);
-    let sheet = sheet_number(culprit.of_answer);
-    let start = wide(culprit.start);
-    let size = wide(culprit.size);
-    *numbers = [number, cell, lab, apprentice, sheet, start, size];
+    *numbers = [
+        u64::from(v.number),
+        u64::from(v.cell),
+        u64::from(v.lab),
+        u64::from(v.apprentice),
+        u64::from(v.culprit.of_answer),
+        v.culprit.start as u64,
+        v.culprit.size as u64,
+    ];
 }
 
 // Marks the answers of a class sheet on the board of a settings sheet, one row for each. Asks nothing of the contents: sheets of any bytes, any number of
@@ -100,8 +84,8 @@ pub extern "C" fn nurimkkot_mark_class(
     ensures counted { filled.new ≡ (marked class_sheet.now (length rows.old)).filled }
 {
     let marked = class::mark_class(settings, exercise, class_sheet, rows);
-    *filled = marked.filled as usize;
-    marked.number
+    *filled = usize::from(marked.unwrap_or(0));
+    told(marked)
 }
 
 // Credits the minutes of a tablet log, one row for each apprentice, and lists the numbers of the entries that cover none. Asks nothing of the contents: a log of
@@ -121,9 +105,10 @@ pub extern "C" fn nurimkkot_minutes(
     ensures empty { entries_filled.new ≡ (credited log.now (length rows.old) (length entries.old)).entries }
 {
     let credited = credits::minutes(log, rows, entries);
-    *rows_filled = credited.rows as usize;
-    *entries_filled = credited.entries as usize;
-    credited.number
+    let filled = credited.unwrap_or(NONE_FILLED);
+    *rows_filled = usize::from(filled.rows);
+    *entries_filled = usize::from(filled.entries);
+    told(credited)
 }
 
 // The number of 10 to 14 that applies to an exercise, or 0.
@@ -131,7 +116,7 @@ pub extern "C" fn nurimkkot_minutes(
 pub extern "C" fn nurimkkot_open_exercise(exercise: &[u8]) -> u8
     ensures { result ≡ exercise_number exercise.now }
 {
-    reader::exercise_opens(exercise)
+    told(ExerciseSheet::check(exercise))
 }
 
 // The number of 20 to 25 without 24 that applies to an answer, or 0.
@@ -139,64 +124,72 @@ pub extern "C" fn nurimkkot_open_exercise(exercise: &[u8]) -> u8
 pub extern "C" fn nurimkkot_open_answer(answer: &[u8]) -> u8
     ensures { result ≡ opening_number answer.now }
 {
-    reader::answer_opens(answer)
+    told(AnswerSheet::check(answer))
 }
 
-fn flag(set: bool) -> u16
-    ensures { result ≡ cond set 1 0 }
+// Kind, flag and the eleven signals of a cell.
+fn parts(cell: LogicCell) -> (u8, bool, [u16; 11])
+    ensures { result.0 ∷ cond result.1 1 0 ∷ result.2 ≡ logic_cell_values cell }
 {
-    if set { 1 } else { 0 }
-}
-
-fn combinational_fields(c: CombinationalCell) -> [u16; 13]
-    ensures { result ≡ combinational_values c }
-{
-    let sums = flag(c.sums_cin);
-    [
-        1,
-        sums,
-        c.dataa.0,
-        c.datab.0,
-        c.datac.0,
-        c.datad.0,
-        c.cin.0,
-        c.combout.0,
-        c.cout.0,
-        0,
-        0,
-        0,
-        0,
-    ]
-}
-
-fn register_fields(r: RegisterCell) -> [u16; 13]
-    ensures { result ≡ register_values r }
-{
-    [
-        2, 0, r.datain.0, r.clk.0, r.ena.0, r.aclr.0, r.sclr.0, r.sload.0, r.sdata.0, r.regout.0,
-        0, 0, 0,
-    ]
+    match cell {
+        LogicCell::Combinational(c) => {
+            let signals = [
+                c.dataa.0,
+                c.datab.0,
+                c.datac.0,
+                c.datad.0,
+                c.cin.0,
+                c.combout.0,
+                c.cout.0,
+                0,
+                0,
+                0,
+                0,
+            ];
+            (exercise::COMBINATIONAL, c.sums_cin, signals)
+        }
+        LogicCell::Register(r) => {
+            let signals = [
+                r.datain.0, r.clk.0, r.ena.0, r.aclr.0, r.sclr.0, r.sload.0, r.sdata.0, r.regout.0,
+                0, 0, 0,
+            ];
+            (exercise::REGISTER, false, signals)
+        }
+    }
 }
 
 fn cell_fields(step: ExerciseStep) -> [u16; 13]
     ensures { result ≡ cell_fields step }
 {
-    match step {
-        ExerciseStep::Combinational(c) => return combinational_fields(c),
-        ExerciseStep::Register(c) => return register_fields(c),
-        ExerciseStep::Broken => return [0u16; 13],
-        ExerciseStep::End => return [0u16; 13],
-    }
+    let Step::Record(cell) = step else {
+        return [0; 13];
+    };
+    let (kind, flag, [a, b, c, d, e, f, g, h, i, j, k]) = parts(cell);
+    [
+        u16::from(kind),
+        u16::from(flag),
+        a,
+        b,
+        c,
+        d,
+        e,
+        f,
+        g,
+        h,
+        i,
+        j,
+        k,
+    ]
 }
 
-fn cell_told(step: ExerciseStep) -> u8
-    ensures { result ≡ cell_told step }
+// Whether a reader gave a record.
+fn step_told<T: Copy>(step: Step<T>) -> u8
+    ensures { result ≡ step_told step }
 {
     match step {
-        ExerciseStep::Combinational(_) => return 0,
-        ExerciseStep::Register(_) => return 0,
-        ExerciseStep::Broken => return 1,
-        ExerciseStep::End => return 2,
+        Step::Record(_) => 0,
+        Step::Broken => 1,
+        Step::End => 2,
     }
 }
 
@@ -208,56 +201,26 @@ pub extern "C" fn nurimkkot_next_cell(exercise: &[u8], at: &mut u16, cell: &mut 
     ensures fields { cell.new ≡ cell_fields (exercise_step_at exercise.now at.old) }
     ensures moved { at.new ≡ next_exercise exercise.now at.old }
 {
-    let step = reader::read_record(exercise, at);
+    let step = reader::read::<ExerciseSheet>(exercise, at);
     *cell = cell_fields(step);
-    cell_told(step)
+    step_told(step)
 }
 
-// Kind 1 and the flag as one number, the flag in its high byte.
-fn combinational_kind(sums_cin: bool) -> u16
-    ensures { result ≡ 1 + 256 * cond sums_cin 1 0 }
+// Kind and flag as one number, the flag in its high byte.
+fn packed_kind(kind: u8, flag: bool) -> u16
+    ensures { result ≡ kind + 256 * cond flag 1 0 }
 {
-    if sums_cin { 257 } else { 1 }
-}
-
-fn combinational_cell(c: CombinationalCell) -> Cell
-    ensures { result ≡ packed (combinational_values c) }
-{
-    let kind = combinational_kind(c.sums_cin);
-    [
-        kind,
-        c.dataa.0,
-        c.datab.0,
-        c.datac.0,
-        c.datad.0,
-        c.cin.0,
-        c.combout.0,
-        c.cout.0,
-        0,
-        0,
-        0,
-        0,
-    ]
-}
-
-fn register_cell(r: RegisterCell) -> Cell
-    ensures { result ≡ packed (register_values r) }
-{
-    [
-        2, r.datain.0, r.clk.0, r.ena.0, r.aclr.0, r.sclr.0, r.sload.0, r.sdata.0, r.regout.0, 0,
-        0, 0,
-    ]
+    u16::from(kind) + 256 * u16::from(flag)
 }
 
 fn packed_cell(step: ExerciseStep) -> Cell
     ensures { result ≡ packed (cell_fields step) }
 {
-    match step {
-        ExerciseStep::Combinational(c) => return combinational_cell(c),
-        ExerciseStep::Register(c) => return register_cell(c),
-        ExerciseStep::Broken => return [0u16; 12],
-        ExerciseStep::End => return [0u16; 12],
-    }
+    let Step::Record(cell) = step else {
+        return [0; 12];
+    };
+    let (kind, flag, [a, b, c, d, e, f, g, h, i, j, k]) = parts(cell);
+    [packed_kind(kind, flag), a, b, c, d, e, f, g, h, i, j, k]
 }
 
 // The same with the record as twelve numbers, which lie as C's struct does: kind and flag are the two bytes of the first.
@@ -267,37 +230,23 @@ pub extern "C" fn nurimkkot_next_record(exercise: &[u8], at: &mut u16, cell: &mu
     ensures fields { cell.new ≡ packed (cell_fields (exercise_step_at exercise.now at.old)) }
     ensures moved { at.new ≡ next_exercise exercise.now at.old }
 {
-    let step = reader::read_record(exercise, at);
+    let step = reader::read::<ExerciseSheet>(exercise, at);
     *cell = packed_cell(step);
-    cell_told(step)
+    step_told(step)
 }
 
 fn place_numbers(p: Place) -> [u16; 3]
     ensures { result ≡ place_values p }
 {
-    let x = p.x as u16;
-    let y = p.y as u16;
-    let le = p.le as u16;
-    [x, y, le]
+    [u16::from(p.x), u16::from(p.y), u16::from(p.le)]
 }
 
 fn place_fields(step: AnswerStep) -> [u16; 3]
     ensures { result ≡ place_fields step }
 {
     match step {
-        AnswerStep::Place(p) => return place_numbers(p),
-        AnswerStep::Broken => return [0u16; 3],
-        AnswerStep::End => return [0u16; 3],
-    }
-}
-
-fn place_told(step: AnswerStep) -> u8
-    ensures { result ≡ place_told step }
-{
-    match step {
-        AnswerStep::Place(_) => return 0,
-        AnswerStep::Broken => return 1,
-        AnswerStep::End => return 2,
+        Step::Record(p) => place_numbers(p),
+        Step::Broken | Step::End => [0; 3],
     }
 }
 
@@ -308,19 +257,9 @@ pub extern "C" fn nurimkkot_next_place(answer: &[u8], at: &mut u16, place: &mut 
     ensures fields { place.new ≡ place_fields (answer_step_at answer.now at.old) }
     ensures moved { at.new ≡ next_answer answer.now at.old }
 {
-    let step = reader::read_place(answer, at);
+    let step = reader::read::<AnswerSheet>(answer, at);
     *place = place_fields(step);
-    place_told(step)
-}
-
-// The number of a LAB's result, its route bytes written.
-fn tell(res: LabResult, route: &mut [u8; 8]) -> u8
-    ensures number { result ≡ res.number }
-    ensures bytes { route.new ≡ res.bytes }
-{
-    let bytes = res.bytes;
-    *route = bytes;
-    res.number
+    step_told(step)
 }
 
 // The check of one LAB on a lent list of its cells, on the board of a settings sheet. Asks nothing of the contents: a sheet and a list of any length.
@@ -330,7 +269,9 @@ pub extern "C" fn nurimkkot_check_lab(settings: &[u8], cells: &[Cell], route: &m
     ensures number { result ≡ (list_verdict settings.now cells.now).number }
     ensures bytes { route.new ≡ (list_verdict settings.now cells.now).bytes }
 {
-    tell(list_check::check_list(settings, cells), route)
+    let checked = list_check::check_list(settings, cells);
+    *route = checked.unwrap_or([255u8; 8]);
+    told(checked)
 }
 
 // The settings sheet of the board of document 01.
@@ -355,7 +296,7 @@ pub extern "C" fn nurimkkot_read_settings(
 {
     *numbers = settings::settings_numbers(settings);
     *entries = settings::settings_entries(settings);
-    settings::settings_number(settings)
+    told(settings::check_settings(settings))
 }
 
 // Writes the exercise sheet of so many nets and these cells, and its length. A refusal leaves the buffer as it is, with length 0.
@@ -371,8 +312,8 @@ pub extern "C" fn nurimkkot_write_exercise(
     ensures sized { size.new ≡ (told (exercise_refusal (netlist nets cells.now) (length sheet.old)) (exercise_sheet (netlist nets cells.now))).length }
 {
     let written = writer::write_exercise(nets, cells, sheet);
-    *size = written.length;
-    written.number
+    *size = written.unwrap_or(0);
+    told(written)
 }
 
 // Writes the answer sheet of an apprentice's places in the same way.
@@ -388,8 +329,8 @@ pub extern "C" fn nurimkkot_write_answer(
     ensures sized { size.new ≡ (told (answer_refusal (placement apprentice places.now) (length sheet.old)) (answer_sheet (placement apprentice places.now))).length }
 {
     let written = writer::write_answer(apprentice, places, sheet);
-    *size = written.length;
-    written.number
+    *size = written.unwrap_or(0);
+    told(written)
 }
 
 // Writes the settings sheet of a version, a board's number and the flags of its entries in the same way.
@@ -406,6 +347,6 @@ pub extern "C" fn nurimkkot_write_settings(
     ensures sized { size.new ≡ (told (settings_refusal (board version number entries.now) (length sheet.old)) (settings_sheet (board version number entries.now))).length }
 {
     let written = writer::write_settings(version, number, entries, sheet);
-    *size = written.length;
-    written.number
+    *size = written.unwrap_or(0);
+    told(written)
 }

@@ -7,23 +7,24 @@ use mathlib.Core.Bool.{not}
 use mathlib.Core.List.{List, [], ◌∷◌, ◌++◌, map}
 use lib.ListN.{length, drop, set, length-map}
 use lib.Dec.{eqb}
-use lib.Seq.{sets, length-sets}
-use borrow.Author.Tests.{ne_eqb, ltb-false}
+use lib.Seq.{sets}
+use borrow.Author.Tests.{ltb-false}
 use Rattle.sheet.specs.Lists.{below}
 use Rattle.sheet.specs.Bytes.{u16_at, part_at}
+use Rattle.sheet.specs.declared.refusal.Refusal.{Refusal}
+use Rattle.sheet.specs.Refusals.{number_of}
+use Rattle.sheet.proofs.Refusals.{refused_number}
 use Rattle.sheet.proofs.Lists.{map-suc, table_length, store_behind, sets_front}
 use Rattle.sheet.proofs.Checks.{all_held}
 use Rattle.entries.specs.Table.{Table, eight_rows}
 use Rattle.settings.specs.Settings.{table_of}
-use Rattle.judge.specs.declared.Prepared.{Prepared}
 use Rattle.judge.specs.Call.{call}
-use Rattle.verdict.specs.declared.Finding.{Finding}
 use Rattle.judge.specs.Judge.{judged}
-use Rattle.verdict.specs.Verdicts.{verdict_of, numbers_of, apprentice_of}
-use Rattle.judge.specs.passes.Preparing.{prepared_for, drivers_for, found_from}
+use Rattle.verdict.specs.Verdicts.{verdict_of, numbers_of}
+use Rattle.judge.specs.declared.Prepared.{Prepared}
+use Rattle.judge.specs.passes.Preparing.{prepared_for, drivers_for}
 use Rattle.judge.proofs.Preparing.{prepared_serves}
-use Rattle.class.specs.declared.Marked.{Marked}
-use Rattle.class.specs.Class.{answer_count, start_of, answer_of, answers_on, wrong_lengths, class_checks, refusal, marked, row_of, rows_of, rows_after}
+use Rattle.class.specs.Class.{Marked, answer_count, start_of, answer_of, answers_on, wrong_lengths, class_checks, refusal, marked, row_of, rows_of, rows_after}
 use Rattle.class.specs.passes.Rows.{row_on, row_from}
 
 -- ---- after i answers the walk stands where the length of answer i does
@@ -79,19 +80,7 @@ module _ (t : Table) (p : Prepared) (ds e k : List ℕ) (lent : List (List ℕ))
           written = put ∙ rw (same, s.written, add-one i) (store_next row_at lent i);
         }
 
-    pub store_length : length rows ≡ length lent
-    store_length = rw s.written (length-sets lent 0 (map row_at (below i)))
-
-    pub store_ends : count ≤ i → rows ≡ sets lent 0 (map row_at (below count))
-    store_ends h = let same : i ≡ count = omega (arith, s.walked.within) in rw same at s.written
-
 -- ---- the row of an answer
-pub row_told : (t : Table) (p : Prepared) (ds e a : List ℕ) (f : Finding) (number cell lab apprentice : ℕ) → f ≡ found_from t p ds e a
-    → number ≡ f.number → cell ≡ f.cell → lab ≡ f.lab → apprentice ≡ apprentice_of a f.number
-    → number ∷ cell ∷ lab ∷ apprentice ∷ [] ≡ row_from t p ds e a
-unfolding row_from
-row_told t p ds e a f number cell lab apprentice x n c l q = rw (n, c, l, q) (ap (row_on a) x)
-
 -- what was prepared serves each answer: its row is that of the judge's own verdict
 row_judged : (s e a : List ℕ) → row_from (eight_rows (table_of s)) (prepared_for s e) (drivers_for s e) e a ≡ numbers_of (judged (call s e a 8192 1024))
 unfolding row_from judged verdict_of
@@ -103,29 +92,32 @@ unfolding row_of
 rows_judged s e k [] = refl
 rows_judged s e k (i ∷ is) = rw (row_judged s e (answer_of k i), rows_judged s e k is)
 
--- ---- the whole call
-module _ (s e k : List ℕ) (lent : List (List ℕ)) (n : ℕ) (x : n ≡ refusal k (length lent)) where
-  pub class_refused : (n ≡ 0 → ⊥) → (◌≡◌ {A = Marked} (record { number = n; filled = 0 }) (marked k (length lent))) × (lent ≡ rows_after s e k lent)
+-- ---- the whole call: what it says, and the lent rows at exit
+abbrev pub Outcome : List ℕ → List ℕ → List ℕ → List (List ℕ) → Marked → List (List ℕ) → Type 0
+Outcome s e k lent r after = record { told : r ≡ marked k (length lent); written : after ≡ rows_after s e k lent }
+
+module _ (s e k : List ℕ) (lent : List (List ℕ)) where
+  pub class_refused : (f : Refusal) (r : Marked) → number_of f ≡ refusal k (length lent) → r ≡ record { number = number_of f; filled = 0 } → Outcome s e k lent r lent
   unfolding marked rows_after
-  class_refused h = (rw (← x, ne_eqb n 0 h), rw (← x, ne_eqb n 0 h))
+  class_refused f r x q = record { told = q ∙ rw (← x, refused_number f); written = rw (← x, refused_number f) }
 
-  -- 77: there is a row for each answer
-  enough : n ≡ 0 → answer_count k ≤ length lent
-  unfolding refusal
-  enough h = ltb-false (length lent) (answer_count k) (all_held (class_checks k (length lent)) refl (sym x ∙ h)).1.1.1.1.1.0
+  module _ (x : 0 ≡ refusal k (length lent)) where
+    -- 77: there is a row for each answer
+    enough : answer_count k ≤ length lent
+    unfolding refusal
+    enough = ltb-false (length lent) (answer_count k) (all_held (class_checks k (length lent)) refl (sym x)).1.1.1.1.1.0
 
-  rows_count : length (rows_of s e k) ≡ answer_count k
-  unfolding rows_of answers_on
-  rows_count = length-map (map (answer_of k) (below (answer_count k))) (row_of s e) ∙ table_length (answer_of k) (answer_count k)
+    rows_count : length (rows_of s e k) ≡ answer_count k
+    unfolding rows_of answers_on
+    rows_count = length-map (map (answer_of k) (below (answer_count k))) (row_of s e) ∙ table_length (answer_of k) (answer_count k)
 
-  rows_are : n ≡ 0 → sets lent 0 (rows_of s e k) ≡ rows_of s e k ++ drop (length (rows_of s e k)) lent
-  rows_are h = sets_front lent (rows_of s e k) (omega (arith, enough h, rows_count))
+    rows_are : sets lent 0 (rows_of s e k) ≡ rows_of s e k ++ drop (length (rows_of s e k)) lent
+    rows_are = sets_front lent (rows_of s e k) (omega (arith, enough, rows_count))
 
-  pub class_marked : (t : Table) (p : Prepared) (ds : List ℕ) (count : ℕ) (after : List (List ℕ)) → n ≡ 0 → t ≡ eight_rows (table_of s) → p ≡ prepared_for s e → ds ≡ drivers_for s e → count ≡ answer_count k
-      → after ≡ sets lent 0 (map (λ i. row_from t p ds e (answer_of k i)) (below count))
-      → (◌≡◌ {A = Marked} (record { number = 0; filled = count }) (marked k (length lent))) × (after ≡ rows_after s e k lent)
-  unfolding marked rows_after rows_of answers_on
-  class_marked t p ds count after h table made filled c w = (
-    rw (← x, h, c),
-    rw (← x, h) (w ∙ rw (table, made, filled, c) (ap (λ (rs : List (List ℕ)). sets lent 0 rs) (rows_judged s e k (below (answer_count k))) ∙ rows_are h)),
-  )
+    pub class_marked : (t : Table) (p : Prepared) (ds : List ℕ) (count : ℕ) (after : List (List ℕ)) → t ≡ eight_rows (table_of s) → p ≡ prepared_for s e → ds ≡ drivers_for s e → count ≡ answer_count k
+        → after ≡ sets lent 0 (map (λ i. row_from t p ds e (answer_of k i)) (below count)) → Outcome s e k lent (record { number = 0; filled = count }) after
+    unfolding marked rows_after rows_of answers_on
+    class_marked t p ds count after table made filled c w = record {
+      told = rw (← x, c);
+      written = rw (← x) (w ∙ rw (table, made, filled, c) (ap (λ (rs : List (List ℕ)). sets lent 0 rs) (rows_judged s e k (below (answer_count k))) ∙ rows_are));
+    }

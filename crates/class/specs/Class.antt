@@ -1,14 +1,15 @@
 -- Request M-104, "Mark the whole class at once": the class sheet, 76 and 77, and the rows. `k` is the class sheet, `s` the settings sheet, `e` the exercise. Total: a
 -- byte past the end reads as 0. Assumes nothing.
-use Rattle.std.specs.Prelude.{ℕ, zero, suc, ◌+◌, Bool, cond, not, List, [], ◌∷◌, ◌++◌, map, length, drop, eqb, ltb}
+use Rattle.std.specs.Prelude.{ℕ, zero, suc, ◌+◌, Bool, cond, not, List, [], ◌∷◌, ◌++◌, Result, Ok, Err, map, length, drop, eqb, ltb}
 use Rattle.sheet.specs.Lists.{below}
 use Rattle.sheet.specs.Bytes.{u16_at, part_at}
 use Rattle.sheet.specs.Header.{wrong_mark, wrong_version}
 use Rattle.sheet.specs.Checks.{Check, check, first_number}
+use Rattle.sheet.specs.declared.refusal.Refusal.{Refusal}
+use Rattle.sheet.specs.Refusals.{number_of}
 use Rattle.judge.specs.Call.{call}
 use Rattle.judge.specs.Judge.{judged}
 use Rattle.verdict.specs.Verdicts.{numbers_of}
-use Rattle.class.specs.declared.Marked.{Marked}
 
 -- ---- the sheet: "`LXC`, version 1 and count, 16 bits each, count at most 32, then each answer after its own 16-bit length"
 
@@ -51,6 +52,16 @@ class_checks k rows =
 
 unfoldable pub refusal : List ℕ → ℕ → ℕ
 refusal k rows = first_number (class_checks k rows)
+
+-- what a call says: 0 and how many rows are filled, or a refusal and 0
+pub record Marked : Type 0 where
+  pub number : ℕ
+  pub filled : ℕ
+
+-- the same of a call's result
+abbrev pub marked_from : Result ℕ Refusal → Marked
+marked_from (Ok n) = record { number = 0; filled = n }
+marked_from (Err r) = record { number = number_of r; filled = 0 }
 
 -- what the call says: the refusal and no row, or 0 and the number of answers
 unfoldable pub marked : List ℕ → ℕ → Marked

@@ -6,7 +6,7 @@ use mathlib.Core.List.Permᴰ
 use mathlib.Core.List.{List, [], ◌∷◌, map, Permᴰ}
 use native.Mathlib.Omega.{arith}
 use lib.Dec.{eqb, ltb}
-use borrow.Author.Tests.{eqb-false, ltb-false}
+use borrow.Author.Tests.{ltb-false}
 use Rattle.sheet.specs.Lists.{Every, from, below}
 use Rattle.sheet.proofs.Laws.{or_parts}
 use Rattle.sheet.proofs.Scan.{none_at}
@@ -35,15 +35,6 @@ module _ (l : List ℕ) where
       let early = (or_parts (ltb 10080 e.opening) (ltb 10080 e.closing) (or_parts (ltb 10080 e.opening || ltb 10080 e.closing) (eqb e.apprentice 0) f.good).0).0 in
       omega (arith, ltb-false 10080 e.opening early)
 
-  named : (k : ℕ) → Lawful k → 1 ≤ (entry_of l k).apprentice
-  unfolding bad_at bad_entry
-  named k f =
-      let e = entry_of l k in
-      positive e.apprentice (eqb-false e.apprentice 0 (or_parts (ltb 10080 e.opening || ltb 10080 e.closing) (eqb e.apprentice 0) f.good).1)
-    where
-      positive : (a : ℕ) → (a ≡ 0 → ⊥) → 1 ≤ a
-      positive a h = omega arith
-
   key_order : (j k : ℕ) → Lawful j → Lawful k → j ≤ k → ((entry_of l j).apprentice ≤ (entry_of l k).apprentice) × ((entry_of l j).apprentice ≡ (entry_of l k).apprentice → (entry_of l j).opening ≤ (entry_of l k).opening)
   unfolding key_at
   key_order j k f g h =
@@ -57,7 +48,7 @@ module _ (l : List ℕ) where
   in_order [] b a o h r f = tt
   in_order (k ∷ ks) b a o h r f =
       let n = h k f.0 r.0 in
-      (named k f.0, n.0, n.1, in_order ks k (entry_of l k).apprentice (entry_of l k).opening (λ j g c. key_order k j f.0 g c) r.1 f.1)
+      (n.0, n.1, in_order ks k (entry_of l k).apprentice (entry_of l k).opening (λ j g c. key_order k j f.0 g c) r.1 f.1)
 
   -- ---- the keys of the entries
   key_number : (i : ℕ) → i < 1024 → key_at l i % 1024 ≡ i

@@ -7,25 +7,33 @@ use native.Mathlib.Omega.{arith}
 use lib.ListN.{length, length-map}
 use lib.Seq.{sets}
 use lib.Dec.{eqb, ltb}
-use borrow.Author.Tests.{eq-eqb, ne_eqb, lt-ltb, le-ltb, ltb-false}
+use borrow.Author.Tests.{eq-eqb, eqb-true, eqb-false, ne_eqb, lt-ltb, le-ltb, ltb-false}
 use Rattle.sheet.specs.Lists.{below}
+use Rattle.sheet.specs.declared.refusal.Refusal.{Refusal}
+use Rattle.sheet.specs.Refusals.{number_of}
+use Rattle.sheet.proofs.Refusals.{refused_number}
+use Rattle.sheet.proofs.Laws.{by_test}
 use Rattle.sheet.specs.Checks.{check}
 use Rattle.sheet.proofs.Lists.{filter-length, below_length, sets_front}
 use Rattle.sheet.proofs.Checks.{all_held, in_turn}
-use Rattle.tablet_log.specs.declared.Credited.{Credited}
 use Rattle.tablet_log.specs.Log.{entry_count, entry_at, entries}
 use Rattle.tablet_log.specs.Minutes.{apprentices, row_of, rows_of, covers_none, empty_below, listed_of}
-use Rattle.tablet_log.specs.Credited.{over_limit, any_bad, too_many, log_checks, log_number, refusal, filled_with, credited, credits_after, numbers_after}
+use Rattle.tablet_log.specs.Credited.{Credited, over_limit, any_bad, too_many, log_checks, log_number, refusal, filled_with, credited, credits_after, numbers_after}
 use Rattle.tablet_log.proofs.Order.{order_apprentices, order_rows}
 use Rattle.credits.specs.passes.Keys.{entry_of, keys_of}
-use Rattle.credits.specs.passes.Tally.{no_tally, tally_of, rows_by}
+use Rattle.std.specs.Prelude.{None}
+use Rattle.credits.specs.passes.Rows.{rows_begun, row_after, rows_by}
 use Rattle.credits.proofs.Tallied.{tallied}
 use Rattle.credits.proofs.Ordered.{ordered, ordered_in_order, ordered_order}
 
 -- what the call says, and the lists at exit
 abbrev pub Outcome : List ℕ → List (List ℕ) → List ℕ → Credited → List (List ℕ) → List ℕ → Type 0
 Outcome l rows numbers r rows' numbers' =
-    (r ≡ credited l (length rows) (length numbers)) × ((rows' ≡ credits_after l rows numbers) × (numbers' ≡ numbers_after l rows numbers))
+    record {
+      told : r ≡ credited l (length rows) (length numbers);
+      minutes : rows' ≡ credits_after l rows numbers;
+      listed : numbers' ≡ numbers_after l rows numbers;
+    }
 
 module _ (l : List ℕ) (none : log_number l ≡ 0) where
   few_entries : entry_count l ≤ 1024
@@ -44,17 +52,15 @@ module _ (l : List ℕ) (none : log_number l ≡ 0) where
 module _ (l : List ℕ) (rows : List (List ℕ)) (numbers : List ℕ) where
   refused_by : (n : ℕ) (r : Credited) → r ≡ record { number = n; rows = 0; entries = 0 } → refusal l (length rows) (length numbers) ≡ n → (n ≡ 0 → ⊥) → Outcome l rows numbers r rows numbers
   unfolding credited credits_after numbers_after
-  refused_by n r e k h = let other = ne_eqb n 0 h in (e ∙ rw (k, other), (rw (k, other), rw (k, other)))
+  refused_by n r e k h = let other = ne_eqb n 0 h in record { told = e ∙ rw (k, other); minutes = rw (k, other); listed = rw (k, other) }
 
   -- 87, by either list
-  pub refused_rows : (r : Credited) → r ≡ record { number = 87; rows = 0; entries = 0 } → (length rows ≡ 64 → ⊥) → Outcome l rows numbers r rows numbers
+  pub refused_lists : (r : Credited) → r ≡ record { number = 87; rows = 0; entries = 0 } → (length rows ≡ 64 → length numbers ≡ 1024 → ⊥) → Outcome l rows numbers r rows numbers
   unfolding refusal
-  refused_rows r e h = refused_by 87 r e (rw (ne_eqb (length rows) 64 h)) (λ z. omega arith)
-
-  -- 87
-  pub refused_numbers : (r : Credited) → r ≡ record { number = 87; rows = 0; entries = 0 } → length rows ≡ 64 → (length numbers ≡ 1024 → ⊥) → Outcome l rows numbers r rows numbers
-  unfolding refusal
-  refused_numbers r e g h = refused_by 87 r e (rw (eq-eqb (length rows) 64 g, ne_eqb (length numbers) 1024 h)) (λ z. omega arith)
+  refused_lists r e h =
+      by_test (eqb (length rows) 64)
+      (λ t. refused_by 87 r e (rw (t, ne_eqb (length numbers) 1024 (h (eqb-true (length rows) 64 t)))) (λ z. omega arith))
+      (λ t. refused_by 87 r e (rw t) (λ z. omega arith))
 
   module _ (g : length rows ≡ 64) (h : length numbers ≡ 1024) where
     -- 80 to 85, then 86
@@ -62,8 +68,8 @@ module _ (l : List ℕ) (rows : List (List ℕ)) (numbers : List ℕ) where
     unfolding refusal log_number
     by_log = rw (eq-eqb (length rows) 64 g, eq-eqb (length numbers) 1024 h) (in_turn (log_checks l) (check 86 (too_many l) ∷ []) refl)
 
-    pub refused_log : (n : ℕ) (r : Credited) → n ≡ log_number l → (n ≡ 0 → ⊥) → r ≡ record { number = n; rows = 0; entries = 0 } → Outcome l rows numbers r rows numbers
-    refused_log n r k z e = refused_by n r e (by_log ∙ rw (← k, ne_eqb n 0 z)) z
+    pub refused_log : (f : Refusal) (r : Credited) → number_of f ≡ log_number l → r ≡ record { number = number_of f; rows = 0; entries = 0 } → Outcome l rows numbers r rows numbers
+    refused_log f r k e = refused_by (number_of f) r e (by_log ∙ rw (← k, refused_number f)) (eqb-false (number_of f) 0 (refused_number f))
 
     module _ (none : log_number l ≡ 0) where
       abbrev few : entry_count l ≤ 1024
@@ -72,7 +78,7 @@ module _ (l : List ℕ) (rows : List (List ℕ)) (numbers : List ℕ) where
       abbrev all_good : any_bad l ≡ false
       all_good = good l none
 
-      module _ (n : ℕ) (ks : List ℕ) (e : n ≡ entry_count l) (k : ks ≡ keys_of l n) (p : ℕ) (q : p ≡ (tally_of no_tally (map (entry_of l) ks)).rows) where
+      module _ (n : ℕ) (ks : List ℕ) (e : n ≡ entry_count l) (k : ks ≡ keys_of l n) (p : ℕ) (q : p ≡ rows_begun (row_after None (map (entry_of l) ks))) where
         is_ordered : map (entry_of l) ks ≡ ordered l few all_good
         is_ordered = rw (k, e)
 
@@ -87,7 +93,7 @@ module _ (l : List ℕ) (rows : List (List ℕ)) (numbers : List ℕ) where
             refused_by 86 r f (by_log ∙ rw (none, many)) (λ z. omega arith)
 
         -- ---- filled
-        rows_filled : (rows' : List (List ℕ)) → p ≤ 64 → rows' ≡ rows_by no_tally rows (map (entry_of l) ks) → rows' ≡ filled_with (rows_of (entries l)) rows
+        rows_filled : (rows' : List (List ℕ)) → p ≤ 64 → rows' ≡ rows_by None rows (map (entry_of l) ks) → rows' ≡ filled_with (rows_of (entries l)) rows
         unfolding rows_of
         rows_filled rows' c f =
             let long = length-map (apprentices (entries l)) (row_of (entries l)) in
@@ -99,10 +105,14 @@ module _ (l : List ℕ) (rows : List (List ℕ)) (numbers : List ℕ) where
         unfolding empty_below
         numbers_fit = omega (arith, filter-length (λ i. covers_none (entry_at l i)) (below (entry_count l)), below_length (entry_count l), few)
 
-        pub lists_filled : (rows' : List (List ℕ)) (numbers' : List ℕ) (m c : ℕ) → p ≤ 64 → rows' ≡ rows_by no_tally rows (map (entry_of l) ks) → m ≡ entry_count l
+        pub lists_filled : (rows' : List (List ℕ)) (numbers' : List ℕ) (m c : ℕ) → p ≤ 64 → rows' ≡ rows_by None rows (map (entry_of l) ks) → m ≡ entry_count l
             → c ≡ length (empty_below l m) → numbers' ≡ sets numbers 0 (empty_below l m) → Outcome l rows numbers (record { number = 0; rows = p; entries = c }) rows' numbers'
         unfolding credited credits_after numbers_after too_many
         lists_filled rows' numbers' m c a f b o t =
             let held : ltb 64 (length (apprentices (entries l))) ≡ false = le-ltb 64 (length (apprentices (entries l))) (omega (arith, people)) in
             let legal : refusal l (length rows) (length numbers) ≡ 0 = by_log ∙ rw (none, held) in
-            (rw (legal, people, o, b), (rw legal (rows_filled rows' a f), rw legal (t ∙ rw b (sets_front numbers (listed_of l) numbers_fit))))
+            record {
+              told = rw (legal, people, o, b);
+              minutes = rw legal (rows_filled rows' a f);
+              listed = rw legal (t ∙ rw b (sets_front numbers (listed_of l) numbers_fit));
+            }

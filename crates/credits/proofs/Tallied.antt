@@ -1,6 +1,6 @@
--- The pass over entries that are in order, by apprentice and opening minute: after each entry it has counted the apprentices so far, it has the minutes of the last
--- one, and the rows of all of them are stored. An entry adds its minutes from the last closing on, since those from its opening to there are counted. Assumes nothing.
-use Prim.Native.Nat.{ℕ, suc, ◌+◌, ◌-◌, ◌≤◌, ◌<◌}
+-- The pass over entries that are in order, by apprentice and opening minute: after each entry it has begun a row for each apprentice so far, the last row has the
+-- minutes of the last one, and the rows of all of them are stored. An entry adds its minutes from the last closing on, since those from its opening to there are counted. Assumes nothing.
+use Prim.Native.Nat.{ℕ, max, ◌+◌, ◌-◌, ◌≤◌, ◌<◌}
 use mathlib.Core.Path.{◌≡◌, refl, sym, ap, ◌∙◌}
 use mathlib.Core.Logic.{◌⊎◌, inl, inr, ⊎_elim}
 use mathlib.Core.List.{List, [], ◌∷◌, ◌++◌, map, map-append, append-nil, append_assoc}
@@ -9,6 +9,7 @@ use lib.ListN.{length, set, length-append, length-map}
 use lib.Seq.{sets, set-set}
 use lib.Dec.{eqb, ltb}
 use borrow.Author.Tests.{eq-eqb, ne_eqb, eqb-true, eqb-false, lt-ltb, le-ltb, ltb-true, ltb-false}
+use Rattle.std.specs.Prelude.{Some, None}
 use Rattle.sheet.specs.Lists.{concat_map, filterb, elemb, from}
 use Rattle.sheet.proofs.Laws.{by_test, same_truth}
 use Rattle.sheet.proofs.Lists.{filter-append, concat-append, store_behind}
@@ -18,8 +19,8 @@ use Rattle.distinct.proofs.Nets.{elem_in, in_elem, in_from, from_in, from_above}
 use Rattle.distinct.proofs.More.{distinct_run, last_above, rising_last, rising_again}
 use Rattle.tablet_log.specs.declared.Entry.{Entry}
 use Rattle.tablet_log.specs.Minutes.{minutes_of, is_own, own_minutes, credit, apprentices, row_of, rows_of}
-use Rattle.credits.specs.declared.Tally.{Tally}
-use Rattle.credits.specs.passes.Tally.{no_tally, begun, added, with_entry, larger, tally_of, stored, rows_by}
+use Rattle.credits.specs.declared.Row.{Row}
+use Rattle.credits.specs.passes.Rows.{rows_begun, new_row, begun, added, row_after, stored, rows_by}
 
 -- ---- one entry more
 own_append : (es fs : List Entry) (a : ℕ) → own_minutes (es ++ fs) a ≡ own_minutes es a ++ own_minutes fs a
@@ -47,16 +48,13 @@ module _ (es : List Entry) (e : Entry) where
     own = own_minutes es e.apprentice
 
     abbrev start : ℕ
-    start = larger until e.opening
+    start = max until e.opening
 
     start_late : (e.opening ≤ start) × (until ≤ start)
-    start_late =
-        by_test (ltb until e.opening)
-        (λ t. let g = ltb-true until e.opening t in rw t (omega arith, omega arith))
-        (λ t. let g = ltb-false until e.opening t in rw t (omega arith, omega arith))
+    start_late = (omega arith, omega arith)
 
     start_is : (start ≡ e.opening) ⊎ (start ≡ until)
-    start_is = by_test (ltb until e.opening) (λ t. inl (rw t)) (λ t. inr (rw t))
+    start_is = by_test (ltb until e.opening) (λ t. inl (omega (arith, ltb-true until e.opening t))) (λ t. inr (omega (arith, ltb-false until e.opening t)))
 
     within : (z : ℕ) → In z (minutes_of e) → (e.opening ≤ z) × (z < e.closing)
     within z m =
@@ -103,17 +101,14 @@ module _ (es : List Entry) (e : Entry) where
         (λ t. rw own_more (in_elem z (own ++ minutes_of e) (append_in z own (minutes_of e)
         (⊎_elim (λ u. inl (elem_in z own (h z low ∙ lt-ltb z until u))) (λ c. inr (covers z low c)) (g z low (ltb-true z after t))))))
 
--- ---- the tally
--- the entries so far, the tally after them; from o on, the minutes of the last apprentice are those before `until`
-pub record Tallied (es : List Entry) (t : Tally) (o : ℕ) : Type 0 where
-  pub rows : t.rows ≡ length (apprentices es)
-  pub minutes : t.minutes ≡ credit es t.apprentice
-  pub until : (z : ℕ) → o ≤ z → elemb z (own_minutes es t.apprentice) ≡ ltb z t.until
-  pub last : ((es ≡ []) × (t.apprentice ≡ 0)) ⊎ ((before : List ℕ) × (apprentices es ≡ before ++ (t.apprentice ∷ [])))
-
-pub none_tallied : Tallied [] no_tally 0
-unfolding apprentices credit
-none_tallied = record { rows = refl; minutes = refl; until = λ z h. sym (le-ltb z 0 (omega arith)); last = inl (refl, refl) }
+-- ---- the row that the pass is at
+-- the entries so far, and the row of the last apprentice; from o on, that person's minutes are those before `until`
+pub record Tallied (es : List Entry) (r : Row) (o : ℕ) : Type 0 where
+  pub before : List ℕ
+  pub last : apprentices es ≡ before ++ (r.apprentice ∷ [])
+  pub number : r.number ≡ length before
+  pub minutes : r.minutes ≡ credit es r.apprentice
+  pub until : (z : ℕ) → o ≤ z → elemb z (own_minutes es r.apprentice) ≡ ltb z r.until
 
 abbrev names : List Entry → List ℕ
 names es = map (λ e. e.apprentice) es
@@ -122,177 +117,184 @@ none_own : (es : List Entry) (a : ℕ) → ((z : ℕ) → In z (names es) → z 
 none_own [] a h = refl
 none_own (e ∷ es) a h = rw (ne_eqb e.apprentice a (h e.apprentice (inl refl))) (none_own es a (λ z m. h z (inr m)))
 
-module _ (es : List Entry) (t : Tally) (o : ℕ) (s : Tallied es t o) (e : Entry) (some : 1 ≤ e.apprentice) (next : t.apprentice ≤ e.apprentice)
-    (later : t.apprentice ≡ e.apprentice → o ≤ e.opening) where
+module _ (es : List Entry) (e : Entry) where
   abbrev then : List Entry
   then = es ++ (e ∷ [])
-
-  -- the last apprentice is the highest so far
-  most : (z : ℕ) → In z (names es) → z ≤ t.apprentice
-  unfolding apprentices
-  most z m =
-      ⊎_elim (λ q. absurd (rw q.0 at m))
-      (λ q. ⊎_elim (λ n. omega (arith, last_above 0 z t.apprentice q.0 (rw q.1 at (rising_above (names es))) n)) (⊎_elim (λ r. omega arith) (λ n. absurd n))
-      (in_append z q.0 (t.apprentice ∷ []) (rw q.1 at (rising_in z (names es) m))))
-      s.last
 
   names_then : names then ≡ names es ++ (e.apprentice ∷ [])
   names_then = map-append (λ (e : Entry). e.apprentice) es (e ∷ [])
 
-  other_last : (e.apprentice ≡ t.apprentice → ⊥) → apprentices then ≡ apprentices es ++ (e.apprentice ∷ [])
-  unfolding apprentices
-  other_last n = ap rising names_then ∙ rising_last (names es) e.apprentice (λ z m. above z (most z m))
-    where
-      above : (z : ℕ) → z ≤ t.apprentice → z < e.apprentice
-      above z g = omega arith
-
-  own_last : e.apprentice ≡ t.apprentice → (before : List ℕ) × (apprentices es ≡ before ++ (e.apprentice ∷ []))
-  own_last q = ⊎_elim (λ r. absurd (omega (arith, r.1))) (λ r. (r.0, rw q r.1)) s.last
-
-  own_again : e.apprentice ≡ t.apprentice → apprentices then ≡ apprentices es
-  unfolding apprentices
-  own_again q =
-      let r = own_last q in
-      ap rising names_then
-      ∙ rising_again (names es) e.apprentice (in_rising e.apprentice (names es) (rw r.1 (append_in e.apprentice r.0 (e.apprentice ∷ []) (inr (inl refl)))))
-
-  -- ---- the row that is begun
-  record Begun (u : Tally) : Type 0 where
+  -- ---- the row that is begun, behind those of the apprentices before
+  record Begun (before : List ℕ) (u : Row) : Type 0 where
     whose : u.apprentice ≡ e.apprentice
-    rows : u.rows ≡ length (apprentices then)
+    last : apprentices then ≡ before ++ (e.apprentice ∷ [])
+    number : u.number ≡ length before
     minutes : u.minutes ≡ credit es e.apprentice
     until : (z : ℕ) → e.opening ≤ z → elemb z (own_minutes es e.apprentice) ≡ ltb z u.until
+    -- the rows of those before, whatever is put into its own place
+    place : (lent rows : List (List ℕ)) (v : List ℕ) → rows ≡ sets lent 0 (rows_of es)
+        → set rows (length before) v ≡ set (sets lent 0 (map (row_of es) before)) (length before) v
 
-  row_begun : Begun (begun t e)
-  unfolding begun credit
-  row_begun =
-      by_test (eqb e.apprentice t.apprentice)
-      (λ k. let q = eqb-true e.apprentice t.apprentice k in
-      rw k (record {
-        whose = sym q;
-        rows = s.rows ∙ ap length (sym (own_again q));
-        minutes = s.minutes ∙ rw q;
-        until = λ z g. rw q (s.until z (omega (arith, later (sym q))));
-      }))
-      (λ k. let n = eqb-false e.apprentice t.apprentice k in
-      let none : own_minutes es e.apprentice ≡ [] = none_own es e.apprentice (λ z m r. apart z (most z m) r n) in
-      rw k (record {
-        whose = refl;
-        rows = omega (arith, s.rows, ap length (other_last n), length-append (apprentices es) (e.apprentice ∷ []));
-        minutes = rw none;
-        until = λ z g. rw (none, le-ltb z 0 (omega arith));
-      }))
-    where
-      apart : (z : ℕ) → z ≤ t.apprentice → z ≡ e.apprentice → (e.apprentice ≡ t.apprentice → ⊥) → ⊥
-      apart z g r n = n (omega arith)
+  -- of an apprentice who has no entry so far
+  new_begun : (n : ℕ) → own_minutes es e.apprentice ≡ [] → apprentices then ≡ apprentices es ++ (e.apprentice ∷ []) → n ≡ length (apprentices es)
+      → Begun (apprentices es) (new_row n e)
+  unfolding credit rows_of
+  new_begun n none q k = record {
+    whose = refl;
+    last = q;
+    number = k;
+    minutes = rw none;
+    until = λ z g. rw (none, le-ltb z 0 (omega arith));
+    place = λ lent rows v p. rw p;
+  }
 
   -- ---- the minutes that are added
-  record Added (w : Tally) : Type 0 where
+  record Added (before : List ℕ) (w : Row) : Type 0 where
     whose : w.apprentice ≡ e.apprentice
-    rows : w.rows ≡ length (apprentices then)
+    number : w.number ≡ length before
     minutes : w.minutes ≡ credit then e.apprentice
     until : (z : ℕ) → e.opening ≤ z → elemb z (own_minutes then e.apprentice) ≡ ltb z w.until
 
-  row_added : (u : Tally) → Begun u → Added (added u e)
-  unfolding added
-  row_added u b =
-      let start = larger u.until e.opening in
-      let made = credit_more es e u.until b.until in
-      let late = start_late es e u.until b.until in
-      by_test (ltb start e.closing)
-      (λ k. let g = ltb-true start e.closing k in
-      rw k (record {
-        whose = b.whose;
-        rows = b.rows;
-        minutes = omega (arith, made, b.minutes);
-        until = until_more es e u.until b.until e.closing (λ z low. ⊎_elim (λ h. omega (arith, late.1)) (λ h. h)) (λ z low h. inr h);
-      }))
-      (λ k. let g = ltb-false start e.closing k in
-      rw k (record {
-        whose = b.whose;
-        rows = b.rows;
-        minutes = omega (arith, made, b.minutes);
-        until = until_more es e u.until b.until u.until
-            (λ z low. ⊎_elim (λ h. h) (λ h. ⊎_elim (λ q. absurd (omega arith)) (λ q. omega arith) (start_is es e u.until b.until))) (λ z low h. inl h);
-      }))
+  module _ (before : List ℕ) (u : Row) (b : Begun before u) where
+    row_added : Added before (added u e)
+    unfolding added
+    row_added =
+        let start = max u.until e.opening in
+        let made = credit_more es e u.until b.until in
+        let late = start_late es e u.until b.until in
+        by_test (ltb start e.closing)
+        (λ k. let g = ltb-true start e.closing k in
+        rw k (record {
+          whose = b.whose;
+          number = b.number;
+          minutes = omega (arith, made, b.minutes);
+          until = until_more es e u.until b.until e.closing (λ z low. ⊎_elim (λ h. omega (arith, late.1)) (λ h. h)) (λ z low h. inr h);
+        }))
+        (λ k. let g = ltb-false start e.closing k in
+        rw k (record {
+          whose = b.whose;
+          number = b.number;
+          minutes = omega (arith, made, b.minutes);
+          until = until_more es e u.until b.until u.until
+              (λ z low. ⊎_elim (λ h. h) (λ h. ⊎_elim (λ q. absurd (omega arith)) (λ q. omega arith) (start_is es e u.until b.until))) (λ z low h. inl h);
+        }))
 
-  pub tallied_with : Tallied then (with_entry t e) e.opening
-  tallied_with =
-      let w = row_added (begun t e) row_begun in
+    whose_added : (added u e).apprentice ≡ e.apprentice
+    whose_added = row_added.whose
+
+    tallied_with : Tallied then (added u e) e.opening
+    tallied_with =
+        let w = row_added in
+        record {
+          before = before;
+          last = b.last ∙ ap (λ (a : ℕ). before ++ (a ∷ [])) (sym w.whose);
+          number = w.number;
+          minutes = w.minutes ∙ ap (credit then) (sym w.whose);
+          until = rw w.whose w.until;
+        }
+
+    -- ---- the rows that are stored
+    same_row : (c : ℕ) → (e.apprentice ≡ c → ⊥) → row_of then c ≡ row_of es c
+    same_row c n = rw (other_more es e c n)
+
+    same_rows : (xs : List ℕ) → ((c : ℕ) → In c xs → c < e.apprentice) → map (row_of then) xs ≡ map (row_of es) xs
+    same_rows [] h = refl
+    same_rows (x ∷ xs) h = rw (same_row x (λ q. omega (arith, h x (inl refl))), same_rows xs (λ c m. h c (inr m)))
+
+    stored_with : (lent rows : List (List ℕ)) → rows ≡ sets lent 0 (rows_of es) → stored rows (added u e) ≡ sets lent 0 (rows_of then)
+    unfolding rows_of apprentices
+    stored_with lent rows p =
+        let w = row_added in
+        let a = e.apprentice in
+        let xs = map (row_of then) before in
+        let kept : map (row_of then) before ≡ map (row_of es) before = same_rows before (λ c m. last_above 0 c a before (rw b.last at (rising_above (names then))) m) in
+        let long : length xs ≡ length before = length-map before (row_of then) in
+        let all : map (row_of then) (before ++ (a ∷ [])) ≡ xs ++ (row_of then a ∷ []) = map-append (row_of then) before (a ∷ []) in
+        let here : stored rows (added u e) ≡ set rows (length before) (row_of then a) = rw (w.number, w.whose, w.minutes) in
+        here ∙ b.place lent rows (row_of then a) p ∙ rw (← kept, b.last, all, ← long) (store_behind lent xs (row_of then a))
+
+-- the first entry begins the first row
+first_begun : (e : Entry) → Begun [] e [] (begun None e)
+unfolding begun apprentices
+first_begun e = new_begun [] e 0 refl (rising_last [] e.apprentice (λ z m. absurd m)) refl
+
+-- another entry adds to the row of the last apprentice, or begins one
+module _ (es : List Entry) (r : Row) (o : ℕ) (s : Tallied es r o) (e : Entry) (next : r.apprentice ≤ e.apprentice) (later : r.apprentice ≡ e.apprentice → o ≤ e.opening) where
+  -- the last apprentice is the highest so far
+  most : (z : ℕ) → In z (names es) → z ≤ r.apprentice
+  unfolding apprentices
+  most z m =
+      ⊎_elim (λ n. omega (arith, last_above 0 z r.apprentice s.before (rw s.last at (rising_above (names es))) n)) (⊎_elim (λ q. omega arith) (λ n. absurd n))
+      (in_append z s.before (r.apprentice ∷ []) (rw s.last at (rising_in z (names es) m)))
+
+  other_last : (r.apprentice ≡ e.apprentice → ⊥) → apprentices (then es e) ≡ apprentices es ++ (e.apprentice ∷ [])
+  unfolding apprentices
+  other_last n = ap rising (names_then es e) ∙ rising_last (names es) e.apprentice (λ z m. above z (most z m))
+    where
+      above : (z : ℕ) → z ≤ r.apprentice → z < e.apprentice
+      above z g = omega arith
+
+  own_again : r.apprentice ≡ e.apprentice → apprentices (then es e) ≡ apprentices es
+  unfolding apprentices
+  own_again q =
+      ap rising (names_then es e)
+      ∙ rising_again (names es) e.apprentice (in_rising e.apprentice (names es) (rw (s.last, q) (append_in e.apprentice s.before (e.apprentice ∷ []) (inr (inl refl)))))
+
+  none_other : (r.apprentice ≡ e.apprentice → ⊥) → own_minutes es e.apprentice ≡ []
+  none_other n = none_own es e.apprentice (λ z m q. apart z (most z m) q)
+    where
+      apart : (z : ℕ) → z ≤ r.apprentice → z ≡ e.apprentice → ⊥
+      apart z g q = n (omega arith)
+
+  own_begun : r.apprentice ≡ e.apprentice → Begun es e s.before r
+  unfolding rows_of
+  own_begun q =
+      let a = e.apprentice in
+      let xs = map (row_of es) s.before in
+      let last : apprentices es ≡ s.before ++ (a ∷ []) = rw q at s.last in
+      let long : length xs ≡ length s.before = length-map s.before (row_of es) in
+      let all : map (row_of es) (s.before ++ (a ∷ [])) ≡ xs ++ (row_of es a ∷ []) = map-append (row_of es) s.before (a ∷ []) in
       record {
-        rows = w.rows;
-        minutes = w.minutes ∙ ap (credit then) (sym w.whose);
-        until = rw w.whose w.until;
-        last = inr (by_test (eqb e.apprentice t.apprentice)
-            (λ k. let q = eqb-true e.apprentice t.apprentice k in let r = own_last q in (r.0, own_again q ∙ r.1 ∙ rw w.whose))
-            (λ k. (apprentices es, other_last (eqb-false e.apprentice t.apprentice k) ∙ rw w.whose)));
+        whose = q;
+        last = own_again q ∙ last;
+        number = s.number;
+        minutes = s.minutes ∙ ap (credit es) q;
+        until = λ z g. rw q at (s.until z (omega (arith, later q)));
+        place = λ lent rows v p.
+            let here : rows ≡ set (sets lent 0 xs) (length s.before) (row_of es a) =
+            p ∙ ap (λ (rs : List (List ℕ)). sets lent 0 rs) (ap (map (row_of es)) last ∙ all) ∙ sym (rw long at (store_behind lent xs (row_of es a))) in
+            rw here (set-set (sets lent 0 xs) (length s.before) (row_of es a) v);
       }
 
-  -- ---- the rows that are stored
-  same_row : (b : ℕ) → (e.apprentice ≡ b → ⊥) → row_of then b ≡ row_of es b
-  same_row b n = rw (other_more es e b n)
-
-  same_rows : (xs : List ℕ) → ((b : ℕ) → In b xs → b < e.apprentice) → map (row_of then) xs ≡ map (row_of es) xs
-  same_rows [] h = refl
-  same_rows (x ∷ xs) h = rw (same_row x (λ q. omega (arith, h x (inl refl))), same_rows xs (λ b m. h b (inr m)))
-
-  -- the rows of those before the apprentice, whatever stands in its own place
-  put_last : (lent : List (List ℕ)) (before : List ℕ) (rows : List (List ℕ)) → apprentices then ≡ before ++ (e.apprentice ∷ [])
-      → set rows (length before) (row_of then e.apprentice) ≡ set (sets lent 0 (map (row_of es) before)) (length before) (row_of then e.apprentice)
-      → set rows (length before) (row_of then e.apprentice) ≡ sets lent 0 (rows_of then)
-  unfolding rows_of apprentices
-  put_last lent before rows q p =
-      let a = e.apprentice in
-      let xs = map (row_of then) before in
-      let kept : map (row_of then) before ≡ map (row_of es) before = same_rows before (λ b m. last_above 0 b a before (rw q at (rising_above (names then))) m) in
-      let long : length xs ≡ length before = length-map before (row_of then) in
-      let all : map (row_of then) (before ++ (a ∷ [])) ≡ xs ++ (row_of then a ∷ []) = map-append (row_of then) before (a ∷ []) in
-      p ∙ rw (← kept, q, all, ← long) (store_behind lent xs (row_of then a))
-
-  rows_of_lem : {xs : List ℕ} → apprentices es ≡ xs → rows_of es ≡ map (row_of es) xs
-  unfolding rows_of
-  rows_of_lem q = ap (map (row_of es)) q
-
-  at_last : (rows : List (List ℕ)) (before : List ℕ) → apprentices then ≡ before ++ (e.apprentice ∷ [])
-      → stored rows (with_entry t e) ≡ set rows (length before) (row_of then e.apprentice)
-  unfolding stored
-  at_last rows before q =
-      let w = row_added (begun t e) row_begun in
-      let count : (with_entry t e).rows ≡ suc (length before) = omega (arith, w.rows, ap length q, length-append before (e.apprentice ∷ [])) in
-      let place : (with_entry t e).rows - 1 ≡ length before = omega arith in
-      rw (ne_eqb (with_entry t e).rows 0 (λ z. omega arith), place, w.whose, w.minutes)
-
-  pub stored_with : (lent rows : List (List ℕ)) → rows ≡ sets lent 0 (rows_of es) → stored rows (with_entry t e) ≡ sets lent 0 (rows_of then)
-  stored_with lent rows p =
-      let a = e.apprentice in
-      by_test (eqb a t.apprentice)
-      (λ k. let q = eqb-true a t.apprentice k in
-      let r = own_last q in
-      let xs = map (row_of es) r.0 in
-      let all : rows ≡ sets lent 0 (xs ++ (row_of es a ∷ [])) = p ∙ ap (λ (rs : List (List ℕ)). sets lent 0 rs) (rows_of_lem r.1 ∙ map-append (row_of es) r.0 (a ∷ [])) in
-      let long : length xs ≡ length r.0 = length-map r.0 (row_of es) in
-      let here : rows ≡ set (sets lent 0 xs) (length r.0) (row_of es a) = all ∙ sym (rw long at (store_behind lent xs (row_of es a))) in
-      at_last rows r.0 (own_again q ∙ r.1)
-      ∙ put_last lent r.0 rows (own_again q ∙ r.1) (rw here (set-set (sets lent 0 xs) (length r.0) (row_of es a) (row_of then a))))
-      (λ k. let q = other_last (eqb-false a t.apprentice k) in
-      at_last rows (apprentices es) q ∙ put_last lent (apprentices es) rows q (rw (p ∙ ap (λ (rs : List (List ℕ)). sets lent 0 rs) (rows_of_lem refl))))
+  next_begun : (before : List ℕ) × Begun es e before (begun (Some r) e)
+  unfolding begun
+  next_begun =
+      by_test (eqb r.apprentice e.apprentice)
+      (λ k. let q = eqb-true r.apprentice e.apprentice k in rw k (s.before, own_begun q))
+      (λ k. let n = eqb-false r.apprentice e.apprentice k in
+      rw k (apprentices es, new_begun es e (r.number + 1) (none_other n) (other_last n) (omega (arith, s.number, ap length s.last, length-append s.before (r.apprentice ∷ [])))))
 
 -- ---- all entries
 -- entries in order, the first of them not before the apprentice a and, of that one, the minute o
 abbrev pub InOrder : ℕ → ℕ → List Entry → Type 0
 InOrder a o [] = Unit {0}
-InOrder a o (e ∷ es) = (1 ≤ e.apprentice) × (a ≤ e.apprentice) × (a ≡ e.apprentice → o ≤ e.opening) × InOrder e.apprentice e.opening es
+InOrder a o (e ∷ es) = (a ≤ e.apprentice) × (a ≡ e.apprentice → o ≤ e.opening) × InOrder e.apprentice e.opening es
 
-all_tallied : (fs es : List Entry) (t : Tally) (o : ℕ) (lent rows : List (List ℕ)) → Tallied es t o → InOrder t.apprentice o fs → rows ≡ sets lent 0 (rows_of es)
-    → ((tally_of t fs).rows ≡ length (apprentices (es ++ fs))) × (rows_by t rows fs ≡ sets lent 0 (rows_of (es ++ fs)))
-unfolding tally_of rows_by
-all_tallied [] es t o lent rows s h p = rw (append-nil es) (s.rows, p)
-all_tallied (e ∷ fs) es t o lent rows s h p =
-    let w = row_added es t o s e h.0 h.1 h.2 (begun t e) (row_begun es t o s e h.0 h.1 h.2) in
-    let rest = all_tallied fs (es ++ (e ∷ [])) (with_entry t e) e.opening lent (stored rows (with_entry t e)) (tallied_with es t o s e h.0 h.1 h.2)
-    (rw w.whose h.3) (stored_with es t o s e h.0 h.1 h.2 lent rows p) in
+all_tallied : (fs es : List Entry) (r : Row) (o : ℕ) (lent rows : List (List ℕ)) → Tallied es r o → InOrder r.apprentice o fs → rows ≡ sets lent 0 (rows_of es)
+    → (rows_begun (row_after (Some r) fs) ≡ length (apprentices (es ++ fs))) × (rows_by (Some r) rows fs ≡ sets lent 0 (rows_of (es ++ fs)))
+unfolding row_after rows_by
+all_tallied [] es r o lent rows s h p = rw (append-nil es) (omega (arith, s.number, ap length s.last, length-append s.before (r.apprentice ∷ [])), p)
+all_tallied (e ∷ fs) es r o lent rows s h p =
+    let (before, b) = next_begun es r o s e h.0 h.1 in
+    let u = begun (Some r) e in
+    let rest = all_tallied fs (es ++ (e ∷ [])) (added u e) e.opening lent (stored rows (added u e)) (tallied_with es e before u b)
+    (rw (whose_added es e before u b) h.2) (stored_with es e before u b lent rows p) in
     rw (append_assoc es (e ∷ []) fs) at rest
 
-pub tallied : (fs : List Entry) (lent : List (List ℕ)) → InOrder 0 0 fs → ((tally_of no_tally fs).rows ≡ length (apprentices fs)) × (rows_by no_tally lent fs ≡ sets lent 0 (rows_of fs))
-unfolding rows_of apprentices
-tallied fs lent h = all_tallied fs [] no_tally 0 lent lent none_tallied h refl
+pub tallied : (fs : List Entry) (lent : List (List ℕ)) → InOrder 0 0 fs → (rows_begun (row_after None fs) ≡ length (apprentices fs)) × (rows_by None lent fs ≡ sets lent 0 (rows_of fs))
+unfolding rows_of apprentices row_after rows_by
+tallied [] lent h = (refl, refl)
+tallied (e ∷ fs) lent h =
+    let b = first_begun e in
+    let u = begun None e in
+    all_tallied fs (e ∷ []) (added u e) e.opening lent (stored lent (added u e)) (tallied_with [] e [] u b) (rw (whose_added [] e [] u b) h.2) (stored_with [] e [] u b lent lent refl)

@@ -1,6 +1,7 @@
 -- What the distinct numbers of a list are: rising, each once, and just the list's own. Two rising lists with the same members are one list,
 -- and so more members never make fewer distinct numbers. Assumes nothing.
 use Rattle.std.proofs.Common.{◌≡◌, ℕ, suc, ◌+◌, ◌<◌, ◌≤◌, Bool, true, eqb, ltb, ◌⊎◌, List, [], ◌∷◌, ◌++◌, map, length, refl, ap, ◌∙◌, inl, inr, ⊎_elim, arith, ltb-false, ltb-true, eqb-true}
+use Rattle.std.proofs.lemmas.Bool.Decides.{nat_tests}
 use mathlib.Core.Nat.{le_antisymm}
 use mathlib.Core.List.Sublistᴰ
 use mathlib.Core.List.{Sublistᴰ}
@@ -50,9 +51,7 @@ insert_in z x (y ∷ ys) m =
 
 insert_length : (x : ℕ) (l : List ℕ) → length (insert x l) ≤ suc (length l)
 insert_length x [] = omega arith
-insert_length x (y ∷ ys) =
-    let h = insert_length x ys in
-    insert_cases (λ l. length l ≤ suc (suc (length ys))) x y ys (λ _. omega arith) (λ _. omega arith) (λ _. omega arith)
+insert_length x (y ∷ ys) = grind (arith, nat_tests, insert_length x ys)
 
 -- ---- all of them put in
 all_above : (s xs : List ℕ) → Above 0 s → Above 0 (insert_all s xs)

@@ -1,2 +1,1 @@
 pub mod NeedLists
-mod Rows

@@ -1,7 +1,7 @@
 #![tactic(auto)]
 
 ghost use Rattle.std.specs.Prelude.{◌≡◌, get_or};
-ghost use Rattle.entries.specs.Table.{serves, no_needs, with_need};
+ghost use Rattle.entries.specs.Table.{serves, no_needs, need_list, with_need};
 ghost use Rattle.entries.specs.passes.Entries.{holder, may_have, serves_other, differ_for};
 
 use sheet::Signal;
@@ -55,19 +55,23 @@ impl Needs {
         }
         self
     }
+
+    // Those that there are.
+    pub fn as_slice(&self) -> &[Need]
+        ensures { result.now ≡ need_list self.now }
+    {
+        &self.list[..self.count.min(8)]
+    }
 }
 
 // Whether entry e serves the role.
 pub fn serves(table: EntryTable, e: usize, role: u8) -> bool
     ensures { result ≡ serves table e role }
 {
-    if e < ENTRIES {
-        let column = role as usize;
-        if column < 5 {
-            return table[e][column];
-        }
-    }
-    false
+    let Some(row) = table.get(e) else {
+        return false;
+    };
+    row.get(usize::from(role)).copied().unwrap_or(false)
 }
 
 // What marks an entry that the need has: one more than the number of its net, so never 0.
@@ -82,10 +86,7 @@ pub fn holder(need: Need) -> u16
 pub fn holder_at(held: [u16; ENTRIES], e: usize) -> u16
     ensures { result ≡ get_or held e 0 }
 {
-    if e < ENTRIES {
-        return held[e];
-    }
-    0
+    held.get(e).copied().unwrap_or(0)
 }
 
 // Whether the need may have entry e: it serves the role, and no need of another net has it.

@@ -1,6 +1,6 @@
--- A record that keeps the layout says what its kind tells, whatever else is tested; and a variant of equal structs is equal. Assumes nothing.
+-- A record that keeps the layout says what its kind tells, whatever else is tested. Assumes nothing.
 use Prim.Native.Nat.{ℕ}
-use mathlib.Core.Path.{◌≡◌, ap}
+use mathlib.Core.Path.{◌≡◌}
 use mathlib.Core.Bool.{false, not, true≢false}
 use mathlib.Core.List.{List}
 use lib.ListN.{length}
@@ -8,16 +8,7 @@ use lib.Dec.{eqb}
 use Rattle.exercise.specs.Exercise.{record_part}
 use Rattle.exercise.specs.Record.{kind_of, keeps_combinational, keeps_register, record_of, record_at, is_malformed}
 use Rattle.exercise.specs.passes.Known.{known_of, known_at}
-use Rattle.exercise.specs.declared.CombinationalCell.{CombinationalCell}
-use Rattle.exercise.specs.declared.RegisterCell.{RegisterCell}
-use Rattle.exercise.specs.declared.Record.TheVariants.{Combinational, Register}
 use Rattle.sheet.proofs.Laws.{by_test}
-
-pub combinational_same : {a b : CombinationalCell} → a ≡ b → Combinational a ≡ Combinational b
-combinational_same e = ap Combinational e
-
-pub register_same : {a b : RegisterCell} → a ≡ b → Register a ≡ Register b
-register_same e = ap Register e
 
 known_of_lem : (nets : ℕ) (p : List ℕ) → is_malformed (record_of nets p) ≡ false → known_of p ≡ record_of nets p
 unfolding record_of known_of

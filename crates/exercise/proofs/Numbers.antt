@@ -76,7 +76,9 @@ module _ (nets : ℕ) (p : List ℕ) where
   record_values_lem = record_by record_values (record_fields p) combinational_fields register_fields
 
   -- what a contract says of an answer that is the definition's
-  pub record_says : {r : Record} → r ≡ record_of nets p
-      → (r ≡ record_of nets p)
-      × ((record_number r ≡ cond (breaks_layout nets p) (record_number Malformed) 0) × (record_values r ≡ cond (breaks_layout nets p) [] (record_fields p)))
-  record_says e = (e, (ap record_number e ∙ record_number_lem, ap record_values e ∙ record_values_lem))
+  pub record_says : {r : Record} → r ≡ record_of nets p → record {
+    says : r ≡ record_of nets p;
+    number : record_number r ≡ cond (breaks_layout nets p) (record_number Malformed) 0;
+    values : record_values r ≡ cond (breaks_layout nets p) [] (record_fields p);
+  }
+  record_says e = record { says = e; number = ap record_number e ∙ record_number_lem; values = ap record_values e ∙ record_values_lem }

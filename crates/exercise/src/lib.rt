@@ -2,12 +2,14 @@
 
 ghost use Rattle.std.specs.Prelude.{◌≡◌, cond, [], ◌<◌, min, length};
 ghost use Rattle.sheet.specs.Bytes.{begins_at};
+ghost use Rattle.sheet.specs.Refusals.{told_number};
 ghost use Rattle.sheet.specs.Signal.{connected};
 ghost use Rattle.exercise.specs.Exercise.{over_limit, wrong_exercise_length, net_count, cell_count, exercise_number, record_start, record_part};
 ghost use Rattle.exercise.specs.Record.{code_at, signal_at, combinational_of, register_of, bad_combinational, bad_register, bad_tail, keeps_combinational, keeps_register, record_of, record_at, record_number, record_values, breaks_layout, record_fields};
+ghost use Rattle.exercise.specs.declared.Record.TheVariants.{Combinational, Register, Malformed};
 ghost use Rattle.exercise.specs.passes.Known.{known_of, known_at};
 
-use sheet::{CellNumber, Signal};
+use sheet::{CellNumber, Refusal, Signal};
 
 // Limits of document 01.
 pub const MAX_NETS: u16 = 1024;
@@ -22,6 +24,11 @@ pub const CELLS_AT: usize = 7;
 pub const EXERCISE_HEADER: usize = 9;
 
 pub const RECORD_SIZE: usize = 24;
+
+// The kinds of a cell.
+pub const COMBINATIONAL: u8 = 1;
+
+pub const REGISTER: u8 = 2;
 
 // A cell as a caller gives it, in the order of its record: kind and flag, the low and the high byte of the first number, then eleven signals.
 pub const CELL_NUMBERS: usize = 12;
@@ -88,43 +95,42 @@ fn over_limit(exercise: &[u8]) -> bool
 fn wrong_exercise_length(exercise: &[u8]) -> bool
     ensures { result ≡ wrong_exercise_length exercise.now }
 {
-    exercise.len() != EXERCISE_HEADER + RECORD_SIZE * (cell_count(exercise) as usize)
+    exercise.len() != EXERCISE_HEADER + RECORD_SIZE * usize::from(cell_count(exercise))
 }
 
-// The number of 10 to 14 that applies to an exercise, or 0.
+// 10 to 14 of an exercise.
 #[tactic(auto, unfolding(crate::specs::Exercise::exercise_number))]
-pub fn exercise_number(exercise: &[u8]) -> u8
-    ensures { result ≡ exercise_number exercise.now }
+pub fn check_head(exercise: &[u8]) -> Result<(), Refusal>
+    ensures { told_number result ≡ exercise_number exercise.now }
 {
     if exercise.len() < EXERCISE_HEADER {
-        return 10;
+        return Err(Refusal::ExerciseShort);
     }
     if sheet::wrong_mark(exercise, b'E') {
-        return 11;
+        return Err(Refusal::ExerciseMark);
     }
     if sheet::wrong_version(exercise) {
-        return 12;
+        return Err(Refusal::ExerciseVersion);
     }
     if over_limit(exercise) {
-        return 13;
+        return Err(Refusal::OverLimit);
     }
     if wrong_exercise_length(exercise) {
-        return 14;
+        return Err(Refusal::ExerciseLength);
     }
-    0
+    Ok(())
 }
 
 // Signal j of a record.
-fn signal_at(bytes: &[u8], j: usize) -> Signal
-    requires { (length bytes.now ≡ 24) × (j < 11) }
+fn signal_at(bytes: &[u8; RECORD_SIZE], j: usize) -> Signal
+    requires { j < 11 }
     ensures { result ≡ signal_at bytes.now j }
 {
     let at = 2 + 2 * j;
     Signal(sheet::u16_of(bytes[at], bytes[at + 1]))
 }
 
-fn combinational_of(bytes: &[u8]) -> CombinationalCell
-    requires { length bytes.now ≡ 24 }
+fn combinational_of(bytes: &[u8; RECORD_SIZE]) -> CombinationalCell
     ensures { result ≡ combinational_of bytes.now }
 {
     CombinationalCell {
@@ -139,8 +145,7 @@ fn combinational_of(bytes: &[u8]) -> CombinationalCell
     }
 }
 
-fn register_of(bytes: &[u8]) -> RegisterCell
-    requires { length bytes.now ≡ 24 }
+fn register_of(bytes: &[u8; RECORD_SIZE]) -> RegisterCell
     ensures { result ≡ register_of bytes.now }
 {
     RegisterCell {
@@ -184,41 +189,45 @@ fn bad_register(cell: RegisterCell, nets: u16) -> bool
 }
 
 // Whether signal j of a record is not zero.
-fn connected_at(bytes: &[u8], j: usize) -> bool
-    requires { (length bytes.now ≡ 24) × (j < 11) }
+fn connected_at(bytes: &[u8; RECORD_SIZE], j: usize) -> bool
+    requires { j < 11 }
     ensures { result ≡ connected (code_at bytes.now j) }
 {
-    let signal = signal_at(bytes, j);
-    signal.is_connected()
+    signal_at(bytes, j).is_connected()
 }
 
 // Whether one of the last three signals, which no kind uses, is not zero.
 #[tactic(auto, unfolding(crate::specs::Record::bad_tail))]
-fn bad_tail(bytes: &[u8]) -> bool
-    requires { length bytes.now ≡ 24 }
+fn bad_tail(bytes: &[u8; RECORD_SIZE]) -> bool
     ensures { result ≡ bad_tail bytes.now }
 {
     connected_at(bytes, 8) | connected_at(bytes, 9) | connected_at(bytes, 10)
 }
 
-// Whether a record of kind 1 with this cell keeps its layout.
+// What a record of kind 1 says.
 #[tactic(auto, unfolding(crate::specs::Record::keeps_combinational))]
-fn keeps_combinational(bytes: &[u8], cell: CombinationalCell, nets: u16) -> bool
-    requires { (length bytes.now ≡ 24) × (cell ≡ combinational_of bytes.now) }
-    ensures { result ≡ keeps_combinational nets bytes.now }
+fn combinational_record(bytes: &[u8; RECORD_SIZE], nets: u16) -> Record
+    ensures { result ≡ cond (keeps_combinational nets bytes.now) (Combinational (combinational_of bytes.now)) Malformed }
 {
+    let cell = combinational_of(bytes);
     let over = 1 < bytes[1];
-    !(over | bad_combinational(cell, nets) | connected_at(bytes, 7) | bad_tail(bytes))
+    if over | bad_combinational(cell, nets) | connected_at(bytes, 7) | bad_tail(bytes) {
+        return Record::Malformed;
+    }
+    Record::Combinational(cell)
 }
 
-// Whether a record of kind 2 with this cell keeps its layout.
+// What a record of kind 2 says.
 #[tactic(auto, unfolding(crate::specs::Record::keeps_register))]
-fn keeps_register(bytes: &[u8], cell: RegisterCell, nets: u16) -> bool
-    requires { (length bytes.now ≡ 24) × (cell ≡ register_of bytes.now) }
-    ensures { result ≡ keeps_register nets bytes.now }
+fn register_record(bytes: &[u8; RECORD_SIZE], nets: u16) -> Record
+    ensures { result ≡ cond (keeps_register nets bytes.now) (Register (register_of bytes.now)) Malformed }
 {
+    let cell = register_of(bytes);
     let over = 0 < bytes[1];
-    !(over | bad_register(cell, nets) | bad_tail(bytes))
+    if over | bad_register(cell, nets) | bad_tail(bytes) {
+        return Record::Malformed;
+    }
+    Record::Register(cell)
 }
 
 // What a record says, in an exercise with so many nets. A part that is not 24 bytes long is malformed.
@@ -228,32 +237,21 @@ pub fn decode_record(bytes: &[u8], nets: u16) -> Record
     ensures number { record_number result ≡ cond (breaks_layout nets bytes.now) 15 0 }
     ensures values { record_values result ≡ cond (breaks_layout nets bytes.now) [] (record_fields bytes.now) }
 {
-    if bytes.len() != RECORD_SIZE {
+    let Ok(bytes) = <&[u8; RECORD_SIZE]>::try_from(bytes) else {
         return Record::Malformed;
+    };
+    match bytes[0] {
+        COMBINATIONAL => combinational_record(bytes, nets),
+        REGISTER => register_record(bytes, nets),
+        _ => Record::Malformed,
     }
-    let kind = bytes[0];
-    if kind == 1 {
-        let cell = combinational_of(bytes);
-        if keeps_combinational(bytes, cell, nets) {
-            return Record::Combinational(cell);
-        }
-        return Record::Malformed;
-    }
-    if kind == 2 {
-        let cell = register_of(bytes);
-        if keeps_register(bytes, cell, nets) {
-            return Record::Register(cell);
-        }
-        return Record::Malformed;
-    }
-    Record::Malformed
 }
 
 // Where a cell's record begins.
 pub fn record_start(cell: CellNumber) -> usize
     ensures { result ≡ record_start cell.0 }
 {
-    EXERCISE_HEADER + RECORD_SIZE * (cell.0 as usize)
+    EXERCISE_HEADER + RECORD_SIZE * usize::from(cell.0)
 }
 
 // The part of the exercise that is a cell's record.
@@ -279,10 +277,10 @@ pub fn record_at(exercise: &[u8], cell: CellNumber, nets: u16) -> Record
 fn decode_known(bytes: &[u8]) -> Record
     ensures { result ≡ known_of bytes.now }
 {
-    if bytes.len() != RECORD_SIZE {
+    let Ok(bytes) = <&[u8; RECORD_SIZE]>::try_from(bytes) else {
         return Record::Malformed;
-    }
-    if bytes[0] == 1 {
+    };
+    if bytes[0] == COMBINATIONAL {
         return Record::Combinational(combinational_of(bytes));
     }
     Record::Register(register_of(bytes))

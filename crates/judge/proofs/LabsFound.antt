@@ -17,8 +17,8 @@ use Rattle.entries.specs.Table.{Table}
 use Rattle.route.specs.Served.{SameServed}
 use Rattle.lab_rules.specs.Rules.{lab_checks, lab_number, route_of, lab_result, lab_tries}
 use Rattle.lab_rules.specs.passes.Counts.{AllFit}
-use Rattle.lab_rules.specs.declared.LabResult.{LabResult}
-use Rattle.lab_rules.specs.declared.LabSearch.{LabSearch}
+use Rattle.lab_rules.specs.Rules.{LabResult}
+use Rattle.lab_rules.specs.passes.Counts.{LabSearch}
 use Rattle.lab_rules.proofs.Served.{same_result, same_tries}
 use Rattle.tables.specs.Records.{cell}
 use Rattle.placing.specs.Places.{lab_at}

@@ -19,6 +19,7 @@ pub mod Demand2
 pub mod Demand3
 pub mod TriesTold
 pub mod AsBefore
+pub mod Outcomes
 pub mod Steps
 pub mod Preparing
 pub mod Ring

@@ -7,8 +7,12 @@ use mathlib.Core.Bool.{true, false, cond, not}
 use mathlib.Core.List.{List, [], ◌++◌, map}
 use lib.ListN.{length, get_or, replicate, length-replicate, get_or-replicate}
 use lib.Dec.{eqb, ltb}
-use borrow.Author.Tests.{eq-eqb, ne_eqb, eqb-true, lt-ltb, le-ltb}
+use borrow.Author.Tests.{eq-eqb, ne_eqb, eqb-true, eqb-false, lt-ltb, le-ltb, ltb-true}
 use Rattle.sheet.specs.Checks.{NONE}
+use Rattle.std.specs.Prelude.{Result, Ok, Err}
+use Rattle.sheet.specs.declared.refusal.Refusal.{Refusal}
+use Rattle.sheet.specs.Refusals.{number_of, told_number}
+use Rattle.sheet.proofs.Refusals.{refused_number}
 use Rattle.sheet.specs.Lists.{first_from, below, elemb}
 use Rattle.sheet.proofs.Laws.{by_test}
 use Rattle.sheet.proofs.First.{none_first}
@@ -20,28 +24,32 @@ use Rattle.settings.specs.Settings.{settings_number, table_of}
 use Rattle.settings.proofs.Laws.{same_table}
 use Rattle.lab_rules.specs.Rules.{lab_tries}
 use Rattle.lab_rules.specs.passes.Counts.{AllFit}
+use Rattle.tables.specs.declared.Reads.{Reads}
+use Rattle.tables.specs.declared.Reads.TheVariants.{Never}
 use Rattle.tables.specs.passes.Tables.{reads_below, readers_below, drivers_below}
 use Rattle.tables.proofs.Filled.{drivers_length}
 use Rattle.netlist.specs.Cells.{cell_number}
 use Rattle.netlist.specs.passes.Numbers.{number_at}
 use Rattle.lab_pass.specs.passes.Links.{Links}
-use Rattle.lab_pass.specs.passes.Results.{result_at, tries_at, broken_lab, lowest_broken, has_cells, put_rows, put_tries, searched_labs}
-use Rattle.lab_pass.specs.declared.LowestBroken.{LowestBroken}
+use Rattle.lab_pass.specs.passes.Results.{result_at, tries_at, broken_lab, LowestBroken, lowest_broken, has_cells, put_rows, put_tries, searched_labs}
 use Rattle.lab_pass.proofs.Passing.{lowest_lab, lowest_number}
 use Rattle.lab_pass.proofs.Rows.{rows_long}
 use Rattle.lab_pass.proofs.Tried.{filled_long}
+use Rattle.verdict.specs.declared.Broken.{Broken}
+use Rattle.verdict.specs.declared.Broken.TheVariants as broken
 use Rattle.verdict.specs.declared.Finding.{Finding}
-use Rattle.judge.specs.declared.Prepared.{Prepared}
 use Rattle.verdict.specs.declared.Verdict.{Verdict}
+use Rattle.judge.specs.declared.Prepared.{Prepared}
 use Rattle.judge.specs.Call.{Call, call}
 use Rattle.judge.specs.Judge.{room_checks, settings_group, exercise_group, answer_group, cell_group, place_group, lab_group, checks_to51, checks, lab_cells, first_broken, judged, route_bytes, routed, tries_of, tried}
 use Rattle.judge.specs.Serves.{PreparedServes}
-use Rattle.verdict.specs.Verdicts.{finding, legal, verdict_of}
+use Rattle.verdict.specs.Verdicts.{finding, legal, found, verdict_of}
 use Rattle.verdict.specs.Numbers.{numbers_to51, searched_numbers}
 use Rattle.judge.specs.passes.Stages.{numbered_as, numbered, numbered_lab, placed_by}
 use Rattle.judge.specs.passes.Preparing.{then, early_in, prepared_for, drivers_for, found_to51, linked, found_in_labs, rows_of_labs, tries_of_labs, found_from}
-use Rattle.judge.proofs.Broken.{first_append, found}
+use Rattle.judge.proofs.Broken.{first_append, found as true_of_found}
 use Rattle.judge.proofs.Numbers.{In, all_give, every_weaker, to_51_known, to_51_numbered}
+use Rattle.judge.proofs.Outcomes.{number_in}
 use Rattle.judge.proofs.Groups.{then_stays, then_goes, then_first, then_second, settings_finds, early_finds, fixed_finds, cells_finds, to_51_finds}
 use Rattle.judge.proofs.Numbering.{numbered_none}
 use Rattle.judge.proofs.Sound.{Sound, sound_of, cells_are, places_are}
@@ -49,22 +57,19 @@ use Rattle.judge.proofs.FitCells.{lab_fit}
 use Rattle.judge.proofs.LabsFound.{labs_are, routes_are}
 use Rattle.judge.proofs.TriesFound.{tries_are_told}
 
-abbrev number_in : Finding → ℕ
-number_in f = f.number
-
--- ---- 70 to 75
-pub settings_found : (s : List ℕ) (n : ℕ) {r : Finding} → n ≡ settings_number s → r ≡ finding n NONE NONE → r ≡ first_broken (settings_group s)
-settings_found s n x q = rw (settings_finds s) (q ∙ ap (λ (m : ℕ). finding m NONE NONE) x)
-
 -- ---- 70 to 75, then 10 to 16
-module _ (s e : List ℕ) (f : Finding) (x : f ≡ first_broken (settings_group s)) where
-  pub early_stays : (f.number ≡ 0 → ⊥) → f ≡ first_broken (settings_group s ++ exercise_group e)
-  early_stays h = rw (early_finds s e) (then_stays (first_broken (settings_group s)) _ (λ z. h (ap number_in x ∙ z)) x)
+module _ (s e : List ℕ) {A : Type 0} (x : Result A Refusal) (h : told_number x ≡ settings_number s) where
+  pub early_refused : {B : Type 0} (r : Refusal) {y : Result B Broken} → x ≡ Err r → y ≡ Err (broken.Sheet r) → found y ≡ first_broken (settings_group s ++ exercise_group e)
+  early_refused r p q =
+      let n : settings_number s ≡ number_of r = sym h ∙ ap told_number p in
+      ap found q ∙ sym (early_finds s e ∙ rw (settings_finds, n, refused_number r))
 
-  pub early_goes : {r : Finding} → f.number ≡ 0 → r ≡ first_broken (exercise_group e) → r ≡ first_broken (settings_group s ++ exercise_group e)
-  early_goes h q = rw (early_finds s e) (then_goes (first_broken (settings_group s)) _ (ap number_in (sym x) ∙ h) q)
+  pub early_goes : (u : A) {r : Finding} → x ≡ Ok u → r ≡ first_broken (exercise_group e) → r ≡ first_broken (settings_group s ++ exercise_group e)
+  early_goes u p q =
+      let n : settings_number s ≡ 0 = sym h ∙ ap told_number p in
+      q ∙ sym (early_finds s e ∙ rw (settings_finds, n))
 
-pub ruleset early_steps = (early_stays, early_goes)
+pub ruleset early_steps = (early_refused, early_goes)
 
 -- where nothing is found there, the settings sheet passes, and so does the exercise
 module _ (s e : List ℕ) (passed : (first_broken (settings_group s ++ exercise_group e)).number ≡ 0) where
@@ -75,8 +80,8 @@ module _ (s e : List ℕ) (passed : (first_broken (settings_group s ++ exercise_
   passed_exercise = then_second (first_broken (settings_group s)) (first_broken (exercise_group e)) (rw early_finds at passed)
 
 -- ---- 30 to 44, from the tables, of an exercise that passes 10 to 16
-pub cells_found : (e : List ℕ) (cells : ℕ) (rs rd ds start : List ℕ) (f : Finding) → (first_broken (exercise_group e)).number ≡ 0 → start ≡ replicate 1024 NONE
-    → cells ≡ cell_count e → rs ≡ reads_below (known_at e) (replicate 1024 0) cells → rd ≡ readers_below (known_at e) (replicate 1024 NONE) cells
+pub cells_found : (e : List ℕ) (cells : ℕ) (rs : List Reads) (rd ds start : List ℕ) (f : Finding) → (first_broken (exercise_group e)).number ≡ 0 → start ≡ replicate 1024 NONE
+    → cells ≡ cell_count e → rs ≡ reads_below (known_at e) (replicate 1024 Never) cells → rd ≡ readers_below (known_at e) (replicate 1024 NONE) cells
     → ds ≡ drivers_below (known_at e) start cells → f ≡ numbered (number_at rs rd ds (known_at e)) cells
     → (f ≡ first_broken (cell_group e)) × (ds ≡ drivers_below (known_at e) (replicate 1024 NONE) (cell_count e))
 cells_found e cells rs rd ds start f passed b c r0 r1 r2 found =
@@ -171,14 +176,14 @@ drivers_size s e ds h =
 module _ (t : Table) (e a : List ℕ) (cells : ℕ) (first next : List ℕ) (n : cells ≡ cell_count e)
     (x : first ≡ (linked a cells).first) (y : next ≡ (linked a cells).next)
     (l : LowestBroken) (found : l ≡ lowest_broken t (known_at e) first next) where
-  abbrev number_of : ℕ → ℕ
-  number_of k = (result_at t (known_at e) first next k).number
+  abbrev lab_number : ℕ → ℕ
+  lab_number k = (result_at t (known_at e) first next k).number
 
-  at : l.lab ≡ first_from (λ k. not (eqb (number_of k) 0)) 0 1024
+  at : l.lab ≡ first_from (λ k. not (eqb (lab_number k) 0)) 0 1024
   unfolding broken_lab
   at = lowest_lab t (known_at e) first next l found
 
-  by_lists : {f : Finding} → f ≡ numbered_lab number_of → f ≡ found_in_labs t e a
+  by_lists : {f : Finding} → f ≡ numbered_lab lab_number → f ≡ found_in_labs t e a
   unfolding found_in_labs
   by_lists q = q ∙ rw (x, y, n)
 
@@ -186,6 +191,15 @@ module _ (t : Table) (e a : List ℕ) (cells : ℕ) (first next : List ℕ) (n :
   unfolding numbered_as
   labs_stop h =
       by_lists (rw (← at) (rw (lt-ltb l.lab 1024 h, lowest_number t (known_at e) first next l found h)))
+
+  -- a LAB that is refused is one of the 1,024
+  pub labs_refused : (r : Refusal) → l.number ≡ number_of r → l.lab < 1024
+  unfolding lowest_broken
+  labs_refused r n =
+      let same : l.lab ≡ first_from (broken_lab t (known_at e) first next) 0 1024 = ap (λ (k : LowestBroken). k.lab) found in
+      by_test (ltb l.lab 1024) (λ b. ltb-true l.lab 1024 b)
+      (λ b. let zero : l.number ≡ 0 = ap (λ (k : LowestBroken). k.number) found ∙ rw (← same, b) in
+      absurd (eqb-false (number_of r) 0 (refused_number r) (sym n ∙ zero)))
 
   pub labs_end : {f : Finding} → 1024 ≤ l.lab → f ≡ legal → f ≡ found_in_labs t e a
   unfolding numbered_as
@@ -338,7 +352,7 @@ module _ (s e a : List ℕ) (r n : ℕ) (room : r ≡ 8192) (slots : n ≡ 1024)
   -- up to 51 nothing is searched
   none_searched : ((first_broken (checks_to51 c)).number ≡ 0 → ⊥) → elemb (first_broken (checks_to51 c)).number searched_numbers ≡ false
   none_searched =
-      found (λ f. (f.number ≡ 0 → ⊥) → elemb f.number searched_numbers ≡ false) (λ h. absurd (h refl)) (checks_to51 c)
+      true_of_found (λ f. (f.number ≡ 0 → ⊥) → elemb f.number searched_numbers ≡ false) (λ h. absurd (h refl)) (checks_to51 c)
       (every_weaker (In numbers_to51) _ (λ k m h. all_give (λ i. elemb i searched_numbers) false numbers_to51 refl k.finding.number m) (checks_to51 c) (to_51_known c))
 
   -- the judge's own call: what is found, the route buffer and the list of tries after it
@@ -403,12 +417,12 @@ module _ (c : Call) (before list : List ℕ) (v : Verdict) where
   unfolding judged routed tried verdict_of
   judge_done f after tries x w k q = (rw (← x) q, (rw (← x) w, rw (← x) k))
 
-  -- 1
-  pub judge_room : (c.room ≡ 8192 → ⊥) → v ≡ verdict_of c.exercise c.answer (finding 1 NONE NONE) → Said before list
-  unfolding checks checks_to51 room_checks
-  judge_room h = judge_done (finding 1 NONE NONE) before list (rw (ne_eqb c.room 8192 h)) refl refl
+-- 1
+pub room_refused : (c : Call) → (c.room ≡ 8192 → ⊥) → finding 1 NONE NONE ≡ first_broken (checks c)
+unfolding checks checks_to51 room_checks
+room_refused c h = rw (ne_eqb c.room 8192 h)
 
-  -- 3
-  pub judge_slots : c.room ≡ 8192 → (c.slots ≡ 1024 → ⊥) → v ≡ verdict_of c.exercise c.answer (finding 3 NONE NONE) → Said before list
-  unfolding checks checks_to51 room_checks
-  judge_slots r h = judge_done (finding 3 NONE NONE) before list (rw (eq-eqb c.room 8192 r, ne_eqb c.slots 1024 h)) refl refl
+-- 3
+pub slots_refused : (c : Call) → c.room ≡ 8192 → (c.slots ≡ 1024 → ⊥) → finding 3 NONE NONE ≡ first_broken (checks c)
+unfolding checks checks_to51 room_checks
+slots_refused c r h = rw (eq-eqb c.room 8192 r, ne_eqb c.slots 1024 h)

@@ -2,12 +2,11 @@
 use Prim.Native.Nat.{ℕ, ◌≤◌, ◌<◌}
 use native.Mathlib.Omega.{arith}
 use mathlib.Core.Path.{◌≡◌, refl, sym, ◌∙◌}
-use mathlib.Core.Bool.{false, cond, not, ◌&&◌, and_assoc}
+use mathlib.Core.Bool.{false, cond, not}
 use mathlib.Core.List.{List}
 use lib.ListN.{replicate}
-use lib.Dec.{eqb, ltb}
+use lib.Dec.{ltb}
 use Rattle.sheet.specs.Lists.{first_from}
-use Rattle.sheet.specs.Signal.{is_net, is_inverted}
 use Rattle.exercise.specs.Exercise.{net_count, cell_count, exercise_number}
 use Rattle.exercise.proofs.Head.{headed}
 use Rattle.exercise.specs.declared.Record.{Record}
@@ -17,7 +16,8 @@ use Rattle.tables.specs.Records.{cell, malformed, double_driver}
 use Rattle.netlist.specs.Cells.{cell_number}
 use Rattle.exercise.specs.passes.Known.{known_at}
 use Rattle.sheet.specs.Checks.{NONE}
-use Rattle.tables.specs.passes.Tables.{cell_for, reads_below, readers_below, drivers_below}
+use Rattle.tables.specs.declared.Reads.TheVariants.{Never}
+use Rattle.tables.specs.passes.Tables.{reads_below, readers_below, drivers_below}
 use Rattle.netlist.specs.passes.Numbers.{number_at}
 use Rattle.tables.proofs.Found.{known_cells}
 use Rattle.tables.proofs.Same.{reads_same, readers_same, drivers_same}
@@ -43,10 +43,7 @@ pub record Sound (e : List ℕ) : Type 0 where
 module _ (e a : List ℕ) (s : Sound e) where
   detached_cell : (i : ℕ) (c : Record) → detached_by (drivers e 1024 (cell_count e)) a i c ≡ stands_apart e a i c
   unfolding detached_by
-  detached_cell i (Combinational c) =
-      let d = cell_for (drivers e 1024 (cell_count e)) c.cin.0 in
-      and_assoc (is_net c.cin.0 && not (is_inverted c.cin.0)) (not (eqb d NONE)) (not (follows a d i))
-      ∙ sym (fed_by e s.nets s.cells s.single c.cin.0 (λ j. not (follows a j i)))
+  detached_cell i (Combinational c) = sym (fed_by e s.nets s.cells s.single c.cin.0 (λ j. not (follows a j i)))
   detached_cell i (Register r) = refl
   detached_cell i Malformed = refl
 
@@ -60,12 +57,12 @@ module _ (e a : List ℕ) (s : Sound e) where
       → number_at (reads e 1024 (cell_count e)) (readers e 1024 (cell_count e)) (drivers e 1024 (cell_count e)) (known_at e) i ≡ cell_number e i
   numbers_are i h = rw (s.known i h) (number_is e s.nets s.cells s.single i h)
 
-  abbrev table_of : ((ℕ → Record) → List ℕ → ℕ → List ℕ) → ℕ → List ℕ
+  abbrev table_of : {A : Type 0} → ((ℕ → Record) → List A → ℕ → List A) → A → List A
   table_of below start = below (known_at e) (replicate 1024 start) (cell_count e)
 
-  pub cells_are : numbered (number_at (table_of reads_below 0) (table_of readers_below NONE) (table_of drivers_below NONE) (known_at e)) (cell_count e) ≡ first_broken (cell_group e)
+  pub cells_are : numbered (number_at (table_of reads_below Never) (table_of readers_below NONE) (table_of drivers_below NONE) (known_at e)) (cell_count e) ≡ first_broken (cell_group e)
   cells_are =
-      rw (reads_same (known_at e) (cell e) (replicate 1024 0) (cell_count e) s.known, readers_same (known_at e) (cell e) (replicate 1024 NONE) (cell_count e) s.known, drivers_same (known_at e) (cell e) (replicate 1024 NONE) (cell_count e) s.known)
+      rw (reads_same (known_at e) (cell e) (replicate 1024 Never) (cell_count e) s.known, readers_same (known_at e) (cell e) (replicate 1024 NONE) (cell_count e) s.known, drivers_same (known_at e) (cell e) (replicate 1024 NONE) (cell_count e) s.known)
       (numbered_same _ _ (cell_number e) (cell_count e) numbers_are ∙ sym (cells_finds e))
 
   -- 50 and 51

@@ -20,7 +20,7 @@ use Rattle.entries.specs.Table.{Table}
 use Rattle.route.specs.Served.{SameServed}
 use Rattle.lab_rules.specs.Rules.{lab_tries}
 use Rattle.lab_rules.specs.passes.Counts.{AllFit}
-use Rattle.lab_rules.specs.declared.LabSearch.{LabSearch}
+use Rattle.lab_rules.specs.passes.Counts.{LabSearch}
 use Rattle.lab_pass.specs.passes.Links.{Links}
 use Rattle.lab_pass.specs.passes.Results.{result_at, tries_at, broken_lab, lowest_broken, has_cells, put_tries, searched_labs}
 use Rattle.lab_pass.proofs.Passing.{none_in, lowest_lab}

@@ -4,27 +4,11 @@
 
 ghost use Rattle.std.specs.Prelude.{◌≡◌, ◌<◌, ◌≤◌, length};
 
-use std::io::Read;
 use std::rt::Files;
-use std::{fs, io, str};
+use std::{io, str};
 
 // Room for the largest sheet of these cases.
 const SHEET_ROOM: usize = 512;
-
-// Reads until buf is full, the input ends or a read fails, and returns how many bytes came.
-fn fill(input: &mut impl Read, buf: &mut [u8]) -> usize
-    ensures in_bounds { result ≤ length buf.new }
-    ensures len { length buf.new ≡ length buf.old }
-{
-    let mut done = 0;
-    while done < buf.len() {
-        match input.read(&mut buf[done..]) {
-            Ok(0) | Err(_) => break,
-            Ok(n) => done += n,
-        }
-    }
-    done
-}
 
 // Fills buf with a case's sheet, whose name ends in this letter, and returns how many bytes came: none where it is missing.
 fn read_sheet(rt: &impl Files, case: u8, letter: u8, buf: &mut [u8]) -> usize
@@ -38,10 +22,7 @@ fn read_sheet(rt: &impl Files, case: u8, letter: u8, buf: &mut [u8]) -> usize
     let Ok(path) = str::from_utf8(&path) else {
         return 0;
     };
-    match fs::open(rt, path) {
-        Ok(mut file) => fill(&mut file, buf),
-        Err(_) => 0,
-    }
+    sheet_files::read_sheet(rt, path, buf)
 }
 
 fn bytes(rt: &impl Print, part: &[u8]) -> io::Result<()> {

@@ -2,11 +2,9 @@
 // the board is that of the settings sheet on standard input.
 #![tactic(auto)]
 
-ghost use Rattle.std.specs.Prelude.{◌≡◌, ◌≤◌, length};
-
-use std::io::Read;
+use sheet_files::{fill, read_sheet};
+use std::io;
 use std::rt::{Env, Files};
-use std::{fs, io};
 
 // The largest legal sheets, and one byte more.
 const SETTINGS_ROOM: usize = 17;
@@ -14,32 +12,6 @@ const SETTINGS_ROOM: usize = 17;
 const EXERCISE_ROOM: usize = 12298;
 
 const ANSWER_ROOM: usize = 2060;
-
-// Reads until buf is full, the input ends or a read fails, and returns how many bytes came.
-fn fill(input: &mut impl Read, buf: &mut [u8]) -> usize
-    ensures in_bounds { result ≤ length buf.new }
-    ensures len { length buf.new ≡ length buf.old }
-{
-    let mut done = 0;
-    while done < buf.len() {
-        match input.read(&mut buf[done..]) {
-            Ok(0) | Err(_) => break,
-            Ok(n) => done += n,
-        }
-    }
-    done
-}
-
-// Fills buf with the start of a file and returns how many bytes came: none where it is missing or can't be read.
-fn read_sheet(rt: &impl Files, path: &str, buf: &mut [u8]) -> usize
-    ensures in_bounds { result ≤ length buf.new }
-    ensures len { length buf.new ≡ length buf.old }
-{
-    match fs::open(rt, path) {
-        Ok(mut file) => fill(&mut file, buf),
-        Err(_) => 0,
-    }
-}
 
 // Writes the listing of an exercise and an answer on the board of a settings sheet to standard output.
 fn show(rt: &impl Print, settings: &[u8], exercise: &[u8], answer: &[u8]) -> io::Result<()> {

@@ -1,44 +1,28 @@
--- The marks of a cell are those of its inputs, then of its outputs, one port after the other. Assumes nothing.
-use Prim.Native.Nat.{ℕ}
-use mathlib.Core.Path.{◌≡◌, refl, sym, ◌∙◌}
-use mathlib.Core.Bool.{Bool, true, false}
-use mathlib.Core.List.{List, [], ◌∷◌, ◌++◌, map}
+-- The marks of signals, one after the other. Assumes nothing.
+use Rattle.std.proofs.Common.{◌≡◌, ℕ, ◌+◌, ◌<◌, ◌≤◌, Bool, true, false, List, map, length, get_or, drop, add-one}
+use Rattle.std.proofs.Math.ListN.{drop_of_length-le}
+use Rattle.std.proofs.Math.Seq.{drop-cons}
 use Rattle.sheet.specs.Signal.{is_net, net_of}
-use Rattle.exercise.specs.Record.{outputs}
-use Rattle.exercise.specs.declared.Record.{Record}
-use Rattle.exercise.specs.declared.Record.TheVariants.{Malformed}
-use Rattle.sheet.proofs.Laws.{by_test}
+use Rattle.sheet.specs.declared.Signal.{Signal}
 use Rattle.distinct.specs.declared.LabMarks.{LabMarks}
-use Rattle.distinct.specs.passes.Marks.{Use, reads, drives, Marking, mark, mark_all}
-use Rattle.distinct.proofs.Nets.{mark_append}
-use Rattle.lab_nets.specs.NetsIn.{inputs, nets_at}
-use Rattle.lab_nets.specs.passes.Uses.{uses_of}
+use Rattle.distinct.specs.passes.Marks.{reads, Marking, mark, mark_all}
+use Rattle.lab_nets.specs.NetsIn.{nets_at}
+use Rattle.sheet.specs.Signal.{codes}
 
-module _ (how : ℕ → Use) (l : LabMarks) where
-  -- a signal that is a net marks its net, and another marks nothing
-  module _ (m : Marking) (s : ℕ) (b : Bool) (e : b ≡ is_net s) where
-    pub net_marked : (n : ℕ) {k : Marking} → b ≡ true → n ≡ net_of s → k ≡ mark l m (how n) → k ≡ mark_all l m (map how (nets_at (s ∷ [])))
+-- of some signals, those from i on leave of m what all of them leave of m₀
+pub record Left (l : LabMarks) (m₀ : Marking) (signals : List Signal) (m : Marking) (i : ℕ) : Type 0 where
+  pub left : mark_all l m (map reads (nets_at (codes (drop i signals)))) ≡ mark_all l m₀ (map reads (nets_at (codes signals)))
+
+module _ (l : LabMarks) (m₀ : Marking) (signals : List Signal) (m : Marking) (i : ℕ) (s : Left l m₀ signals m i) where
+  module _ (d : Signal) (h : i < length signals) {b : Bool} (e : b ≡ is_net (get_or signals i d).0) where
+    -- a signal that is a net marks its net, and another marks nothing
+    pub net_marked : {n : ℕ} {k : Marking} → b ≡ true → n ≡ net_of (get_or signals i d).0 → k ≡ mark l m (reads n) → Left l m₀ signals k (i + 1)
     unfolding mark_all
-    net_marked n t q g = rw (← e, t, ← q) g
+    net_marked t q g = record { left = rw (add-one, g, q) (rw (drop-cons signals i d h, ← e, t) at s.left) }
 
-    pub none_marked : b ≡ false → m ≡ mark_all l m (map how (nets_at (s ∷ [])))
-    unfolding mark_all
-    none_marked f = rw (← e, f)
+    pub none_marked : b ≡ false → Left l m₀ signals m (i + 1)
+    none_marked f = record { left = rw add-one (rw (drop-cons signals i d h, ← e, f) at s.left) }
 
-  nets_append : (xs ys : List ℕ) → map how (nets_at (xs ++ ys)) ≡ map how (nets_at xs) ++ map how (nets_at ys)
-  nets_append [] ys = refl
-  nets_append (x ∷ xs) ys = by_test (is_net x) (λ e. rw (e, nets_append xs ys)) (λ e. rw (e, nets_append xs ys))
-
-  -- some signals, then others
-  pub then : (m : Marking) (xs ys : List ℕ) {n k : Marking} → n ≡ mark_all l m (map how (nets_at xs)) → k ≡ mark_all l n (map how (nets_at ys)) → k ≡ mark_all l m (map how (nets_at (xs ++ ys)))
-  then m xs ys p q = q ∙ rw (p, nets_append xs ys) (sym (mark_append l m (map how (nets_at xs)) (map how (nets_at ys))))
-
-module _ (l : LabMarks) (m : Marking) where
-  -- the inputs, then the outputs
-  pub cell_marked : (c : Record) {n k : Marking} → n ≡ mark_all l m (map reads (nets_at (inputs c))) → k ≡ mark_all l n (map drives (nets_at (outputs c))) → k ≡ mark_all l m (uses_of c)
-  unfolding uses_of
-  cell_marked c p q = q ∙ rw p (sym (mark_append l m (map reads (nets_at (inputs c))) (map drives (nets_at (outputs c)))))
-
-  pub no_ports : mark_all l m (uses_of Malformed) ≡ m
-  unfolding uses_of inputs outputs mark_all
-  no_ports = refl
+  pub all_marked : length signals ≤ i → m ≡ mark_all l m₀ (map reads (nets_at (codes signals)))
+  unfolding mark_all
+  all_marked h = rw (drop_of_length-le signals h) at s.left

@@ -5,8 +5,7 @@ use mathlib.Core.Logic.{◌⊎◌, inl, inr, ⊎_elim}
 use mathlib.Core.List.{List, map}
 use Rattle.exercise.specs.declared.Record.{Record}
 use Rattle.entries.specs.Table.{Table}
-use Rattle.lab_rules.specs.declared.LabResult.{LabResult}
-use Rattle.lab_rules.specs.Rules.{lab_number, lab_result, lab_tries}
+use Rattle.lab_rules.specs.Rules.{LabResult, lab_number, lab_result, lab_tries}
 use Rattle.lab_rules.specs.passes.Counts.{searched, AllFit}
 use Rattle.lab_rules.proofs.Folded.{counts_are, nets_are}
 use Rattle.lab_rules.proofs.Result.{result_is, tries_are}

@@ -9,7 +9,9 @@ use native.Mathlib.Omega.{arith}
 use lib.ListN.{length, get_or, set, replicate, length-set, length-replicate, get_or-replicate}
 use lib.Seq.{get_or-set_same, get_or-set_other}
 use lib.Dec.{eqb, ltb}
-use borrow.Author.Tests.{lt-ltb, le-ltb, eqb-true, eqb-false}
+use Rattle.std.specs.Prelude.{Some, None, slice_get}
+use Rattle.std.proofs.lemmas.Option.{get_or_from_slice_get, slice_get-get_or, slice_get_past}
+use borrow.Author.Tests.{ltb-true, ltb-false, lt-ltb, le-ltb, eqb-true, eqb-false}
 use Rattle.sheet.specs.Lists.{filterb, from}
 use Rattle.sheet.proofs.Laws.{by_test}
 use Rattle.sheet.specs.Checks.{NONE}
@@ -18,6 +20,17 @@ use Rattle.placing.specs.Members.{members}
 use Rattle.lab_pass.specs.passes.Links.{Links, link, link_below, walk}
 
 -- ---- walks
+-- what stands behind a cell, and that a list has come to its end
+pub after_cell : (next : List ℕ) (s x : ℕ) → Some x ≡ slice_get next s → (s < length next) × (x ≡ get_or next s NONE)
+after_cell next s x h =
+    by_test (ltb s (length next))
+    (λ t. let in_list = ltb-true s (length next) t in (in_list, sym (get_or_from_slice_get next s x NONE (sym h))))
+    (λ t. let none = h ∙ slice_get_past next s (ltb-false s (length next) t) in absurd (cc))
+
+pub after_none : (next : List ℕ) (s : ℕ) → None ≡ slice_get next s → length next ≤ s
+after_none next s h =
+    by_test (ltb s (length next)) (λ t. let some = h ∙ slice_get-get_or next s 0 (ltb-true s (length next) t) in absurd (cc)) (λ t. ltb-false s (length next) t)
+
 pub walk_past : (next : List ℕ) (s k : ℕ) → length next ≤ s → walk next s k ≡ []
 unfolding walk
 walk_past next s zero h = refl

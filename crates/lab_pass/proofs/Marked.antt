@@ -15,6 +15,9 @@ LowerThan lab marks = Lower 1024 (2 * lab + 1) marks
 pub lower_skips : (lab : ℕ) (marks : List ℕ) → LowerThan lab marks → LowerThan (lab + 1) marks
 lower_skips lab marks s = lower_more 1024 (2 * lab + 1) (2 * (lab + 1) + 1) marks (omega arith) s
 
+pub lower_skips_group : (group : ℕ) (marks : List ℕ) → LowerThan (8 * group) marks → LowerThan (8 * (group + 1)) marks
+lower_skips_group group marks s = lower_more 1024 (2 * (8 * group) + 1) (2 * (8 * (group + 1)) + 1) marks (omega arith) s
+
 module _ (lab : ℕ) (l : LabMarks) (e : l ≡ marks_of lab) where
   pub marks_rise : l.read < l.driven
   unfolding marks_of

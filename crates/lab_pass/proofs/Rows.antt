@@ -2,11 +2,13 @@
 use Prim.Native.Nat.{ℕ, zero, suc, ◌+◌, ◌*◌, ◌/◌, ◌%◌, ◌<◌, ◌≤◌}
 use mathlib.Core.Path.{◌≡◌, refl, sym, ap, ◌∙◌}
 use mathlib.Core.Bool.{Bool, false}
-use mathlib.Core.List.{List, [], ◌∷◌, ◌++◌, map}
+use mathlib.Core.List.{List, [], ◌∷◌, ◌++◌, map, append_assoc}
 use mathlib.Core.Option.{Option, none, some}
 use native.Mathlib.Omega.{arith}
-use lib.ListN.{length, get_or, set, replicate, length-set, get_or-replicate}
-use lib.Seq.{ext_get_or}
+use lib.ListN.{length, get_or, set, replicate, get_or-replicate, take, drop, length-take, length-drop}
+use borrow.Rule.Slice.PartMut.{put_mid, mid_of}
+use lib.Seq.{ext_get_or, sets-eq, drop-drop, sets, length-sets}
+use native.Mathlib.Numerals.{add-one}
 use lib.Dec.{eqb}
 use Rattle.sheet.specs.Lists.{concat_map, from, below}
 use Rattle.exercise.specs.declared.Record.{Record}
@@ -33,6 +35,25 @@ row_none : (g : ℕ → ℕ) (i : ℕ) → row_from g i 0 ≡ []
 unfolding row_from
 row_none g i = refl
 
+-- what stands in a part of a list, stored from its place on
+pub part_sets : (xs ys zs : List ℕ) (at k : ℕ) → ys ≡ zs → k ≡ length zs → at + k ≤ length xs → put_mid at k xs ys ≡ sets xs at zs
+part_sets xs ys zs at k e n h = rw (e, n, drop-drop) (sym (sets-eq zs xs at (omega arith) ∙ append_assoc (take at xs) zs (drop (at + length zs) xs)))
+
+-- several elements that are stored right behind
+write_sets : (g : ℕ → ℕ) (l₀ xs l : List ℕ) (at : ℕ) → Written g l₀ l at → at + length xs ≤ length l₀ → ((j : ℕ) → j < length xs → get_or xs j 0 ≡ g (at + j))
+    → Written g l₀ (sets l at xs) (at + length xs)
+write_sets g l₀ [] l at w h same = let here : at + 0 ≡ at = omega arith in rw here w
+write_sets g l₀ (x ∷ xs) l at w h same =
+    let here : at + 0 ≡ at = omega arith in
+    let after : at + suc (length xs) ≡ suc at + length xs = omega arith in
+    let one : Written g l₀ (set l at x) (suc at) = rw (← add-one at) (write_goes g l₀ l at x w (omega (arith, w.long)) (rw here at (same 0 (omega arith)))) in
+    rw after
+    (write_sets g l₀ xs (set l at x) (suc at) one (omega arith)
+    (λ j b. let next : at + suc j ≡ suc at + j = omega arith in rw next at (same (suc j) (omega arith))))
+
+pub mid_long : (a k : ℕ) (xs : List ℕ) → a + k ≤ length xs → length (mid_of a k xs) ≡ k
+mid_long a k xs h = simp (length-take, length-drop) (omega arith)
+
 module _ (some : ℕ → Bool) (g : ℕ → List ℕ) where
   abbrev byte_of : ℕ → ℕ
   byte_of j = get_or (g (j / 8)) (j % 8) 0
@@ -55,35 +76,22 @@ module _ (some : ℕ → Bool) (g : ℕ → List ℕ) where
       (row_append byte_of (8 * i) 8 (8 * k)
       ∙ rw (after, one_row i (h i (omega arith)), rows_from (suc i) k (λ l b. h l (omega arith))))
 
-  row_long : (l : List ℕ) (k : ℕ) (b : List ℕ) → length (put_row l k b) ≡ length l
-  unfolding put_row
-  row_long l k b = simp length-set
-
   pub rows_long : (l : List ℕ) (k : ℕ) → length (put_rows some g l k) ≡ length l
-  unfolding put_rows
+  unfolding put_rows put_row
   rows_long l zero = refl
   rows_long l (suc k) =
-      by_test (some k) (λ t. rw t (row_long (put_rows some g l k) k (g k) ∙ rows_long l k)) (λ t. rw t (rows_long l k))
+      by_test (some k) (λ t. rw t (length-sets (put_rows some g l k) (8 * k) (g k) ∙ rows_long l k)) (λ t. rw t (rows_long l k))
 
-  -- byte j of the row of LAB k
-  byte_goes : (l₀ l : List ℕ) (k j at after : ℕ) → j < 8 → at ≡ 8 * k + j → after ≡ at + 1 → 8 * k + 8 ≤ length l₀ → Written byte_of l₀ l at
-      → Written byte_of l₀ (set l at (get_or (g k) j 0)) after
-  byte_goes l₀ l k j at after h p q r w =
-      let lab : at / 8 ≡ k = omega arith in
-      let place : at % 8 ≡ j = omega arith in
-      rw q (write_goes byte_of l₀ l at _ w (omega (arith, w.long)) (rw (lab, place)))
-
-  row_goes : (l₀ l : List ℕ) (k : ℕ) → 8 * k + 8 ≤ length l₀ → Written byte_of l₀ l (8 * k) → Written byte_of l₀ (put_row l k (g k)) (8 * suc k)
+  row_goes : (l₀ l : List ℕ) (k : ℕ) → length (g k) ≡ 8 → 8 * k + 8 ≤ length l₀ → Written byte_of l₀ l (8 * k) → Written byte_of l₀ (put_row l k (g k)) (8 * suc k)
   unfolding put_row
-  row_goes l₀ l k r w =
-      let w1 = byte_goes l₀ _ k 0 (8 * k) (8 * k + 1) (omega arith) (omega arith) refl r w in
-      let w2 = byte_goes l₀ _ k 1 (8 * k + 1) (8 * k + 2) (omega arith) refl (omega arith) r w1 in
-      let w3 = byte_goes l₀ _ k 2 (8 * k + 2) (8 * k + 3) (omega arith) refl (omega arith) r w2 in
-      let w4 = byte_goes l₀ _ k 3 (8 * k + 3) (8 * k + 4) (omega arith) refl (omega arith) r w3 in
-      let w5 = byte_goes l₀ _ k 4 (8 * k + 4) (8 * k + 5) (omega arith) refl (omega arith) r w4 in
-      let w6 = byte_goes l₀ _ k 5 (8 * k + 5) (8 * k + 6) (omega arith) refl (omega arith) r w5 in
-      let w7 = byte_goes l₀ _ k 6 (8 * k + 6) (8 * k + 7) (omega arith) refl (omega arith) r w6 in
-      byte_goes l₀ _ k 7 (8 * k + 7) (8 * suc k) (omega arith) refl (omega arith) r w7
+  row_goes l₀ l k e r w =
+      let end : 8 * suc k ≡ 8 * k + length (g k) = omega arith in
+      rw end
+      (write_sets byte_of l₀ (g k) l (8 * k) w (omega arith)
+      (λ j h.
+      let lab : (8 * k + j) / 8 ≡ k = omega arith in
+      let place : (8 * k + j) % 8 ≡ j = omega arith in
+      rw (lab, place)))
 
   -- a LAB that is left alone, where the rows were 255s and its bytes are
   row_left : (l₀ l : List ℕ) (k : ℕ) → 8 * k + 8 ≤ length l₀ → ((j : ℕ) → j < length l₀ → get_or l₀ j 0 ≡ 255) → g k ≡ replicate 8 255
@@ -95,19 +103,20 @@ module _ (some : ℕ → Bool) (g : ℕ → List ℕ) where
       blank j (omega arith) ∙ sym (rw (lab, e) (get_or-replicate 8 (j % 8) 255 0 (omega arith))))
 
   module _ (l : List ℕ) (blank : (j : ℕ) → j < length l → get_or l j 0 ≡ 255) where
-    rows_go : (k : ℕ) → 8 * k ≤ length l → ((i : ℕ) → i < k → some i ≡ false → g i ≡ replicate 8 255) → Written byte_of l (put_rows some g l k) (8 * k)
+    rows_go : (k : ℕ) → 8 * k ≤ length l → ((i : ℕ) → i < k → some i ≡ false → g i ≡ replicate 8 255) → ((i : ℕ) → i < k → length (g i) ≡ 8)
+        → Written byte_of l (put_rows some g l k) (8 * k)
     unfolding put_rows
-    rows_go zero h empty = write_starts byte_of l
-    rows_go (suc k) h empty =
-        let w = rows_go k (omega arith) (λ i b. empty i (omega arith)) in
-        by_test (some k) (λ t. rw t (row_goes l (put_rows some g l k) k (omega arith) w))
+    rows_go zero h empty e = write_starts byte_of l
+    rows_go (suc k) h empty e =
+        let w = rows_go k (omega arith) (λ i b. empty i (omega arith)) (λ i b. e i (omega arith)) in
+        by_test (some k) (λ t. rw t (row_goes l (put_rows some g l k) k (e k (omega arith)) (omega arith) w))
         (λ t. rw t (row_left l (put_rows some g l k) k (omega arith) blank (empty k (omega arith) t) w))
 
     -- rows of all LABs below k and no more, where those that are left alone have eight 255s
     pub rows_put : (k : ℕ) → length l ≡ 8 * k → ((i : ℕ) → i < k → some i ≡ false → g i ≡ replicate 8 255) → ((i : ℕ) → i < k → length (g i) ≡ 8)
         → put_rows some g l k ≡ concat_map g (below k)
     rows_put k h empty e =
-        let w = rows_go k (omega arith) empty in
+        let w = rows_go k (omega arith) empty e in
         write_ends byte_of l (put_rows some g l k) (8 * k) w (omega (arith, w.long)) ∙ rw h (rows_from 0 k (λ i b. e i (omega arith)))
 
 -- ---- a result has eight bytes

@@ -1,4 +1,4 @@
--- Counters that hold the same are equal, so a LAB with the counts and the nets in of another has its result and its tries, and one with nothing
+-- Counts and nets in that `==` finds the same are equal, so a LAB with the counts and the nets in of another has its result and its tries, and one with nothing
 -- counted keeps every rule, has no route and no tries. Assumes nothing.
 use Prim.Native.Nat.{ℕ}
 use mathlib.Core.Path.{◌≡◌, refl, sym, ◌∙◌}
@@ -8,37 +8,28 @@ use lib.ListN.{replicate}
 use borrow.Author.Tests.{eqb-true}
 use Rattle.sheet.proofs.Laws.{and_parts}
 use Rattle.exercise.specs.declared.Record.{Record}
-use Rattle.distinct.specs.declared.UpToTwo.{UpToTwo}
-use Rattle.distinct.proofs.Same.{same_codes_lem}
+use Rattle.lab_rules.proofs.Same.{same_counts}
 use Rattle.entries.specs.Table.{Table}
-use Rattle.lab_rules.specs.passes.Counts.{no_counts, searched}
+use Rattle.lab_rules.specs.passes.Counts.{no_counts, LabSearch, searched}
 use Rattle.lab_rules.specs.declared.Counts.{Counts}
-use Rattle.lab_rules.specs.declared.LabSearch.{LabSearch}
 use Rattle.lab_pass.specs.declared.Counted.{Counted}
-use Rattle.lab_pass.specs.passes.Results.{search_of, same_counts, same_counted, Tells}
+use Rattle.lab_pass.specs.contracts.CountedPartialEq.TheImpl.{ghosts}
+use Rattle.lab_rules.specs.contracts.CountsPartialEq.TheImpl.{ghosts as counts}
+use lib.Dec.{eqb}
+use Rattle.lab_pass.specs.passes.Results.{search_of, Tells}
 use Rattle.lab_pass.proofs.Taking.{nothing_broken}
 
-counts_equal : (c p r s e c' p' r' s' e' : UpToTwo) → c ≡ c' → p ≡ p' → r ≡ r' → s ≡ s' → e ≡ e'
-    → ◌≡◌ {A = Counts} (record { clocks = c; pairs = p; clears = r; synchronous = s; enables = e })
-    (record { clocks = c'; pairs = p'; clears = r'; synchronous = s'; enables = e' })
-counts_equal c p r s e c' p' r' s' e' hc hp hr hs he = rw (hc, hp, hr, hs, he)
+counted_equal : (k k' : Counts) (n n' : ℕ) → k ≡ k' → n ≡ n' → ◌≡◌ {A = Counted} (record { counts = k; nets = n }) (record { counts = k'; nets = n' })
+counted_equal k k' n n' h i = rw (h, i)
 
-same_counts_lem : (a b : Counts) → same_counts a b ≡ true → a ≡ b
-unfolding same_counts
-same_counts_lem a b h =
-    let e = and_parts _ _ h in
-    let s = and_parts _ _ e.0 in
-    let r = and_parts _ _ s.0 in
-    let p = and_parts _ _ r.0 in
-    counts_equal _ _ _ _ _ _ _ _ _ _ (same_codes_lem _ _ p.0) (same_codes_lem _ _ p.1) (same_codes_lem _ _ r.1) (same_codes_lem _ _ s.1)
-    (same_codes_lem _ _ e.1)
+same_counted : (a b : Counted) → ghosts.eq a b ≡ true → a ≡ b
+same_counted a b h =
+    let e = and_parts (counts.eq a.counts b.counts) (eqb a.nets b.nets) h in
+    counted_equal _ _ _ _ (same_counts a.counts b.counts e.0) (eqb-true a.nets b.nets e.1)
 
-module _ (t : Table) (a b : Counted) (s : Bool) (q : s ≡ same_counted a b) (h : s ≡ true) where
+module _ (t : Table) (a b : Counted) (s : Bool) (q : s ≡ ghosts.eq a b) (h : s ≡ true) where
   pub same_search : {r : LabSearch} → r ≡ searched t b.counts b.nets → r ≡ searched t a.counts a.nets
-  unfolding same_counted
-  same_search z =
-      let p = and_parts _ _ (sym q ∙ h) in
-      z ∙ rw (same_counts_lem a.counts b.counts p.0, eqb-true a.nets b.nets p.1)
+  same_search z = z ∙ rw (same_counted a b (sym q ∙ h))
 
   -- nothing is counted in b
   pub idle_search : b.counts ≡ no_counts → b.nets ≡ 0 → (get : ℕ → Record) (is : List ℕ) → Tells get is a.counts a.nets

@@ -10,3 +10,4 @@ pub mod Settled
 pub mod Routes
 pub mod Order
 pub mod Served
+pub mod Same

@@ -1,5 +1,6 @@
 -- A LAB that keeps 60 to 63 has its needs in its counts, and no role has more needs than route bytes: eight in all.
 -- Assumes nothing.
+use Rattle.std.proofs.lemmas.Bool.Decides.{nat_tests}
 use Prim.Native.Nat.{ℕ, zero, suc, ◌+◌, ◌≤◌, ◌<◌}
 use mathlib.Core.Path.{◌≡◌, refl, sym, ap, ◌∙◌}
 use mathlib.Core.Logic.{inl, inr, ⊎_elim}
@@ -8,9 +9,9 @@ use mathlib.Core.List.{List, [], ◌∷◌, map}
 use native.Mathlib.Omega.{arith}
 use lib.ListN.{length, get_or, length-append, length-map}
 use lib.Dec.{eqb, ltb}
-use borrow.Author.Tests.{ltb-false, leb-true, le-leb, ne_eqb, lt-ltb}
+use borrow.Author.Tests.{ltb-false, leb-true, ne_eqb}
 use Rattle.sheet.specs.Lists.{filterb, Every}
-use Rattle.sheet.specs.Signal.{GND, connected, is_net}
+use Rattle.sheet.specs.Signal.{connected, is_net}
 use Rattle.exercise.specs.declared.RegisterCell.{RegisterCell}
 use Rattle.exercise.specs.declared.Record.{Record}
 use Rattle.exercise.specs.declared.Record.TheVariants.{Combinational, Register, Malformed}
@@ -24,7 +25,7 @@ use Rattle.distinct.proofs.Codes.{codes_held}
 use Rattle.entries.specs.declared.Need.{Need}
 use Rattle.entries.specs.Table.{CLK, ENA, ACLR, SCLR, SLOAD}
 use Rattle.lab_nets.specs.NetsIn.{inputs}
-use Rattle.lab_rules.specs.Ports.{clk, ena, aclr, sclr, sload, used, counted, clock, clock_pair, clear, pair, in_use, synchronous, needed, in_lab}
+use Rattle.lab_rules.specs.Ports.{clk, ena, aclr, sclr, sload, counted, clock, clock_pair, clear, pair, in_use, synchronous, needed, in_lab}
 use Rattle.lab_rules.specs.Rules.{too_many_clocks, too_many_pairs, too_many_clears, too_many_synchronous, needs_of_role, needs}
 use Rattle.lab_rules.specs.Stricter.{used_at, too_many_apart, SixteenBits, Stricter}
 use Rattle.lab_rules.specs.passes.Counts.{counts_of, only_code, first, second, needs_held, Fit, AllFit}
@@ -66,33 +67,28 @@ net_code s = is_net s && ltb s 65536
 -- where a net counts as itself, and nothing else that counts is a net
 one_net : (s : ℕ) (b : Bool) (other : List ℕ) → s < 65536 → (4 ≤ s → b ≡ true) → filterb net_code other ≡ []
     → filterb net_code (cond b (s ∷ []) other) ≡ cond (is_net s) (s ∷ []) []
-one_net s b other small h none =
-    by_test (is_net s) (λ n. rw (h (leb-true 4 s n), n, lt-ltb s 65536 small)) (λ n. rw n (by_test b (λ e. rw (e, n)) (λ e. rw e none)))
+one_net s b other small h none = grind (arith, nat_tests)
 
 net_used : (s : ℕ) → 4 ≤ s → in_use s ≡ true
-net_used s n = rw (ne_eqb s 0 (λ e. omega arith), ne_eqb s GND (λ e. omega arith))
+net_used s n = grind (arith, nat_tests)
 
 module _ (port : RegisterCell → ℕ) (r : RegisterCell) (small : port r < 65536) where
   nets_counted : (default : ℕ) → is_net default ≡ false → filterb net_code (counted port default r) ≡ needed port r
   unfolding counted needed
-  nets_counted default q =
-      one_net (port r) (connected (port r)) (cond (used r) (default ∷ []) []) small (λ n. rw (ne_eqb (port r) 0 (λ e. omega arith)))
-      (by_test (used r) (λ e. rw (e, q)) (λ e. rw e))
+  nets_counted default q = grind (arith, nat_tests)
 
   nets_in_use : filterb net_code (used_at port r) ≡ needed port r
   unfolding used_at needed
-  nets_in_use = one_net (port r) (in_use (port r)) [] small (net_used (port r)) refl
+  nets_in_use = grind (arith, nat_tests)
 
   nets_needed : filterb net_code (needed port r) ≡ needed port r
   unfolding needed
-  nets_needed = one_net (port r) (is_net (port r)) [] small (λ n. le-leb 4 (port r) n) refl
+  nets_needed = grind (arith, nat_tests)
 
 -- nothing that is not in use is a net
 nets_among : (l : List ℕ) → filterb net_code (filterb in_use l) ≡ filterb net_code l
 nets_among [] = refl
-nets_among (s ∷ l) =
-    let h = nets_among l in
-    by_test (is_net s) (λ n. rw (net_used s (leb-true 4 s n), h)) (λ n. by_test (in_use s) (λ e. rw (e, n, h)) (λ e. rw (e, n, h)))
+nets_among (s ∷ l) = grind (arith, nat_tests, nets_among l)
 
 module _ (f g : RegisterCell → List ℕ) (h : (r : RegisterCell) → Fit (Register r) → filterb net_code (f r) ≡ g r) where
   nets_rising : (cs : List Record) → AllFit cs → filterb net_code (rising (in_lab f cs)) ≡ rising (in_lab g cs)
@@ -129,8 +125,8 @@ abbrev has_role : ℕ → Need → Bool
 has_role role n = eqb n.role role
 
 role_count : (role k : ℕ) (codes : List ℕ) → length (filterb (has_role role) (needs_of_role k codes)) ≡ cond (eqb k role) (length codes) 0
-role_count role k [] = by_test (eqb k role) (λ e. rw e) (λ e. rw e)
-role_count role k (s ∷ codes) = let h = role_count role k codes in by_test (eqb k role) (λ e. rw e (ap suc (rw e at h))) (λ e. rw e (rw e at h))
+role_count role k [] = grind (arith, nat_tests)
+role_count role k (s ∷ codes) = grind (arith, nat_tests, role_count role k codes)
 
 module _ (cs : List Record) where
   -- the port's nets are the nets among what f gives of a LAB

@@ -1,5 +1,6 @@
 -- What the number of a LAB's cells says of all its ways: 65 where 60 to 64 hold and there is none, 0 where they hold and there is one; then the
 -- route bytes hold the earliest. Assumes nothing.
+use Rattle.std.proofs.lemmas.Bool.Decides.{nat_tests}
 use Prim.Native.Nat.{ℕ}
 use mathlib.Core.Path.{◌≡◌, refl, sym, ap, ◌∙◌}
 use mathlib.Core.Logic.{◌↔◌}
@@ -7,11 +8,8 @@ use mathlib.Core.Bool.{Bool, true, false, cond, true≢false}
 use mathlib.Core.List.{List}
 use mathlib.Core.Option.{Option, none, some}
 use native.Mathlib.Omega.{arith}
-use lib.Dec.{eqb}
-use borrow.Author.Tests.{eqb-true, eqb-false}
 use Rattle.sheet.specs.Checks.{first_number}
 use Rattle.exercise.specs.declared.Record.{Record}
-use Rattle.sheet.proofs.Laws.{by_test}
 use Rattle.entries.specs.Table.{Table}
 use Rattle.route.specs.Way.{Way, earliest_way}
 use Rattle.route.specs.Route.{eight_bytes, lab_route_of, HoldsEarliest}
@@ -31,10 +29,7 @@ is_some none q = absurd (true≢false q)
 is_some (some w) q = (w, refl)
 
 same_test : (c b : Bool) → ◌≡◌ {A = ℕ} (cond c 65 0) (cond b 65 0) → c ≡ b
-same_test true true e = refl
-same_test true false e = absurd (omega arith)
-same_test false true e = absurd (omega arith)
-same_test false false e = refl
+same_test c b e = grind (arith, nat_tests)
 
 module _ (t : Table) (cs : List Record) where
   -- 65 is broken exactly where there is no way
@@ -59,12 +54,7 @@ module _ (t : Table) (cs : List Record) where
   told b = (there, λ h. number_is t cs ∙ rw (h.0, h.1))
     where
       there : lab_number t cs ≡ cond b 65 0 → (first_number (lab_rules cs) ≡ 0) × (no_way t cs ≡ b)
-      there q =
-          by_test (eqb (first_number (lab_rules cs)) 0)
-          (λ z. let n : lab_number t cs ≡ cond (no_way t cs) 65 0 = number_is t cs ∙ rw z in
-          (eqb-true (first_number (lab_rules cs)) 0 z, same_test (no_way t cs) b (sym n ∙ q)))
-          (λ z. let n : lab_number t cs ≡ first_number (lab_rules cs) = number_is t cs ∙ rw z in
-          absurd (neither b (eqb-false (first_number (lab_rules cs)) 0 z) (sym n ∙ q)))
+      there q = grind (arith, nat_tests, number_is t cs, rules_low cs)
 
   -- ---- the route bytes
   way_bytes : (w : List ℕ) → earliest_way t (needs cs) ≡ some w → route_of t cs ≡ eight_bytes (needs cs) w

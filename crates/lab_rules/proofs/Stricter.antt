@@ -1,4 +1,5 @@
 -- What is in use at sload and at sclr is told by the two codes of the pairs, so a LAB with one pair has one signal at each. Assumes nothing.
+use Rattle.std.proofs.lemmas.Bool.Decides.{nat_tests}
 use Prim.Native.Nat.{ℕ, ◌≤◌, ◌<◌}
 use mathlib.Core.Path.{◌≡◌, refl, sym, ap, ◌∙◌}
 use mathlib.Core.Bool.{false, cond, ◌||◌}
@@ -9,7 +10,7 @@ use Rattle.sheet.specs.Lists.{filterb, Every}
 use Rattle.exercise.specs.declared.RegisterCell.{RegisterCell}
 use Rattle.exercise.specs.declared.Record.{Record}
 use Rattle.exercise.specs.declared.Record.TheVariants.{Register}
-use Rattle.sheet.proofs.Laws.{by_test, or_parts}
+use Rattle.sheet.proofs.Laws.{or_parts}
 use Rattle.sheet.proofs.Lists.{filter-append}
 use Rattle.distinct.specs.Rising.{rising, distinct}
 use Rattle.distinct.proofs.Rising.{distinct_image, in_filter, rising_filter, rising_one}
@@ -21,10 +22,10 @@ use Rattle.lab_rules.proofs.InLab.{lab_made}
 
 -- ---- one register
 fixed_used : (s : ℕ) → filterb in_use (fixed s ∷ []) ≡ cond (in_use s) (s ∷ []) []
-fixed_used s = by_test (in_use s) (λ e. rw (e, e)) (λ e. rw e)
+fixed_used s = grind (arith, nat_tests)
 
 fixed_small : (s : ℕ) → s < 65536 → fixed s < 65536
-fixed_small s h = by_test (in_use s) (λ e. rw e h) (λ e. rw e (omega arith))
+fixed_small s h = grind (arith, nat_tests)
 
 first_of : (a b : ℕ) → b < 65536 → first (pair a b) ≡ a
 first_of a b h = omega arith
@@ -40,8 +41,7 @@ module _ (half : ℕ → ℕ) (port : RegisterCell → ℕ) (r : RegisterCell) w
   half_used : half (pair (fixed (sload r)) (fixed (sclr r))) ≡ fixed (port r) → (in_use (sload r) || in_use (sclr r) ≡ false → in_use (port r) ≡ false)
       → filterb in_use (map half (synchronous r)) ≡ used_at port r
   unfolding pair_in_use used_at
-  half_used q none =
-      by_test (in_use (sload r) || in_use (sclr r)) (λ e. rw (e, q) (fixed_used (port r))) (λ e. rw (e, none e))
+  half_used q none = grind (arith, nat_tests)
 
 pub sclr_half : Half second sclr
 sclr_half r s =

@@ -1,7 +1,9 @@
 -- Document 01, rules 60 to 65 of one LAB, and its needs. Each rule is true where its line is. `cs` are the LAB's cells, `t` is the entry table.
 -- Assumes nothing.
-use Rattle.std.specs.Prelude.{ℕ, Bool, true, false, cond, List, [], ◌∷◌, ◌++◌, map, length, replicate, eqb, ltb}
+use Rattle.std.specs.Prelude.{ℕ, Bool, true, false, cond, List, [], ◌∷◌, ◌++◌, map, length, replicate, Result, Ok, Err, eqb, ltb}
 use Rattle.std.proofs.Math.Option.{Option, none, some}
+use Rattle.sheet.specs.Refusals.{number_of}
+use Rattle.sheet.specs.declared.refusal.Refusal.{Refusal}
 use Rattle.sheet.specs.Checks.{Check, check, first_number}
 use Rattle.exercise.specs.declared.RegisterCell.{RegisterCell}
 use Rattle.exercise.specs.declared.Record.{Record}
@@ -12,7 +14,6 @@ use Rattle.route.specs.Way.{earliest_way}
 use Rattle.route.specs.Route.{lab_route_of}
 use Rattle.route.specs.Tries.{tries}
 use Rattle.lab_nets.specs.NetsIn.{nets_in}
-use Rattle.lab_rules.specs.declared.LabResult.{LabResult}
 use Rattle.lab_rules.specs.Ports.{clk, ena, aclr, sclr, sload, clock, clock_pair, clear, synchronous, needed, in_lab}
 
 -- 60: "more than 2 distinct clk signals"
@@ -85,6 +86,16 @@ route_of t cs = (lab_route_of (needs cs) (earliest_way t (needs cs))).bytes
 -- M-106: the LAB's tries, "the partial ways .. that stand at or before the answer"
 unfoldable pub lab_tries : Table → List Record → ℕ
 lab_tries t cs = tries t (needs cs)
+
+-- a number, and eight bytes
+pub record LabResult : Type 0 where
+  pub number : ℕ
+  pub bytes : List ℕ
+
+-- the result that a call gives: the route bytes with 0, or what the LAB is refused for with "eight 255s"
+abbrev pub lab_result_from : Result (List ℕ) Refusal → LabResult
+lab_result_from (Ok bytes) = record { number = 0; bytes = bytes }
+lab_result_from (Err r) = record { number = number_of r; bytes = replicate 8 255 }
 
 -- the lowest broken of 60 to 65, or 0 with the LAB's eight route bytes; "eight 255s otherwise"
 unfoldable pub lab_result : Table → List Record → LabResult

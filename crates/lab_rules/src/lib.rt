@@ -1,25 +1,28 @@
 #![tactic(auto)]
 
 ghost use Rattle.std.specs.Prelude.{◌≡◌, cond, [], ◌∷◌, map};
-ghost use Rattle.sheet.specs.Signal.{VCC, connected, is_net};
+ghost use Rattle.std.specs.Option.{option_map, option_to_list};
+ghost use Rattle.sheet.specs.Refusals.{told_number};
+ghost use Rattle.sheet.specs.Signal.{GND, VCC, connected, is_net};
 ghost use Rattle.exercise.specs.declared.Record.«TheVariants».{Register};
 ghost use Rattle.distinct.specs.passes.UpToTwo.{with_codes, codes_of};
 ghost use Rattle.entries.specs.Table.{SCLR, SLOAD, needs_of};
 ghost use Rattle.lab_rules.specs.Ports.{clock_pair, pair, in_use, fixed, pair_in_use};
-ghost use Rattle.lab_rules.specs.Rules.{needs_of_role};
-ghost use Rattle.lab_rules.specs.passes.Counts.{no_counts, counts_with, broken_by, net_codes, only_code, first, second, with_needs, needs_held, result_from, searched};
+ghost use Rattle.lab_rules.specs.Rules.{needs_of_role, lab_result_from};
+ghost use Rattle.lab_rules.specs.passes.Counts.{no_counts, counts_with, broken_by, net_codes, only_code, first, second, with_needs, needs_held, result_from, lab_search_from, searched};
 
 use distinct::UpToTwo;
 use entries::{EntryTable, Need, Needs};
 use exercise::{Record, RegisterCell};
-use sheet::Signal;
+use route::Search;
+use sheet::{Refusal, Signal};
 
 // Rule 64: more nets than this break it.
 pub const MAX_NETS_IN: u16 = 38;
 
 // The control signals of a LAB's registers, distinct, as far as rules 60 to 63 and the needs ask for them.
 // A pair is 65536 * clk + ena, a synchronous one 65536 * sload + sclr; enables are the ena signals that are nets.
-#[derive(Clone, Copy)]
+#[derive(Clone, Copy, PartialEq, Eq)]
 pub struct Counts {
     pub clocks: UpToTwo,
     pub pairs: UpToTwo,
@@ -28,46 +31,40 @@ pub struct Counts {
     pub enables: UpToTwo,
 }
 
-// The lowest broken of 60 to 65, or 0 with the LAB's eight route bytes; eight 255s otherwise.
-#[derive(Clone, Copy)]
-pub struct LabResult {
-    pub number: u8,
-    pub bytes: [u8; 8],
-}
-
-// The result of a LAB, and how many tries the search for its route made: none where it breaks one of 60 to 64.
-#[derive(Clone, Copy)]
-pub struct LabSearch {
-    pub result: LabResult,
-    pub tries: u32,
-}
-
-// A port's signal counted: a connected one as it is, an unconnected one of a used register as the default.
-#[tactic(auto, unfolding(distinct::specs::passes::UpToTwo::with_codes))]
-fn with_counted(codes: UpToTwo, signal: Signal, default: Signal, used: bool) -> UpToTwo
-    ensures { result ≡ with_codes codes (cond (connected signal.0) (signal.0 ∷ []) (cond used (default.0 ∷ []) [])) }
+// What counts at a port: its signal where it is connected, otherwise GND where the register is used.
+fn counted(signal: Signal, used: bool) -> Option<Signal>
+    ensures { option_to_list (option_map (λ s. s.0) result) ≡ cond (connected signal.0) (signal.0 ∷ []) (cond used (GND ∷ []) []) }
 {
     if signal.is_connected() {
-        return codes.with(signal.0 as u32);
+        Some(signal)
+    } else if used {
+        Some(Signal::GND)
+    } else {
+        None
     }
-    if used {
-        return codes.with(default.0 as u32);
+}
+
+// One code more: what counts at a port.
+#[tactic(auto, unfolding(distinct::specs::passes::UpToTwo::with_codes))]
+fn with_counted(codes: UpToTwo, signal: Signal, used: bool) -> UpToTwo
+    ensures { result ≡ with_codes codes (cond (connected signal.0) (signal.0 ∷ []) (cond used (GND ∷ []) [])) }
+{
+    match counted(signal, used) {
+        Some(signal) => codes.with(u32::from(signal.0)),
+        None => codes,
     }
-    codes
 }
 
 // The (clk, ena) pair of a register whose clk counts.
+#[tactic(auto, unfolding(distinct::specs::passes::UpToTwo::with_codes, crate::specs::Ports::clock_pair, crate::specs::Ports::counted))]
 fn with_pair(codes: UpToTwo, cell: RegisterCell) -> UpToTwo
     ensures { result ≡ with_codes codes (clock_pair cell) }
 {
     let ena = enable_or_vcc(cell.ena);
-    if cell.clk.is_connected() {
-        return codes.with(pair(cell.clk, ena));
+    match counted(cell.clk, cell.regout.is_connected()) {
+        Some(clk) => codes.with(pair(clk, ena)),
+        None => codes,
     }
-    if cell.regout.is_connected() {
-        return codes.with(pair(Signal::GND, ena));
-    }
-    codes
 }
 
 // An unconnected enable counts as VCC.
@@ -84,14 +81,14 @@ fn enable_or_vcc(ena: Signal) -> Signal
 fn pair(high: Signal, low: Signal) -> u32
     ensures { result ≡ pair high.0 low.0 }
 {
-    65536 * (high.0 as u32) + (low.0 as u32)
+    65536 * u32::from(high.0) + u32::from(low.0)
 }
 
-// At sclr and sload every signal past unconnected and GND is in use.
+// At sclr and sload every signal but unconnected and GND is in use.
 fn is_in_use(signal: Signal) -> bool
     ensures { result ≡ in_use signal.0 }
 {
-    signal.0 > Signal::GND.0
+    signal.is_connected() & (signal != Signal::GND)
 }
 
 // At which signal a cell that uses sclr or sload fixes one of them.
@@ -105,6 +102,7 @@ fn used_or_gnd(signal: Signal) -> Signal
 }
 
 // The (sload, sclr) pair of a cell that uses one of them.
+#[tactic(auto, unfolding(distinct::specs::passes::UpToTwo::with_codes, crate::specs::Ports::pair_in_use))]
 fn with_synchronous(codes: UpToTwo, sload: Signal, sclr: Signal) -> UpToTwo
     ensures { result ≡ with_codes codes (pair_in_use sload.0 sclr.0) }
 {
@@ -122,7 +120,7 @@ fn with_net(codes: UpToTwo, signal: Signal) -> UpToTwo
     ensures { result ≡ with_codes codes (cond (is_net signal.0) (signal.0 ∷ []) []) }
 {
     if signal.is_net() {
-        return codes.with(signal.0 as u32);
+        return codes.with(u32::from(signal.0));
     }
     codes
 }
@@ -131,17 +129,17 @@ impl Counts {
     pub fn none() -> Self
         ensures { result ≡ no_counts }
     {
-        let none = UpToTwo::none();
         Counts {
-            clocks: none,
-            pairs: none,
-            clears: none,
-            synchronous: none,
-            enables: none,
+            clocks: UpToTwo::Empty,
+            pairs: UpToTwo::Empty,
+            clears: UpToTwo::Empty,
+            synchronous: UpToTwo::Empty,
+            enables: UpToTwo::Empty,
         }
     }
 
     // One cell more. Only registers have control ports.
+    #[tactic(auto, unfolding(distinct::specs::passes::UpToTwo::with_codes, crate::specs::passes::Counts::counts_with))]
     pub fn with(self, cell: Record) -> Self
         ensures { result ≡ counts_with self cell }
     {
@@ -151,14 +149,14 @@ impl Counts {
         self.with_register(register)
     }
 
-    #[tactic(auto, unfolding(crate::specs::Ports::needed))]
+    #[tactic(auto, unfolding(crate::specs::passes::Counts::counts_with, crate::specs::Ports::counted, crate::specs::Ports::needed))]
     fn with_register(self, cell: RegisterCell) -> Self
         ensures { result ≡ counts_with self (Register cell) }
     {
         let used = cell.regout.is_connected();
-        let clocks = with_counted(self.clocks, cell.clk, Signal::GND, used);
+        let clocks = with_counted(self.clocks, cell.clk, used);
         let pairs = with_pair(self.pairs, cell);
-        let clears = with_counted(self.clears, cell.aclr, Signal::GND, used);
+        let clears = with_counted(self.clears, cell.aclr, used);
         let synchronous = with_synchronous(self.synchronous, cell.sload, cell.sclr);
         let enables = with_net(self.enables, cell.ena);
         Counts {
@@ -171,27 +169,27 @@ impl Counts {
     }
 }
 
-// The lowest of 60 to 64 that the counts and the number of nets in break, or 0.
+// The lowest of 60 to 64 that the counts and the number of nets in break.
 #[tactic(auto, unfolding(crate::specs::passes::Counts::broken_by))]
-fn broken_by(counts: Counts, nets: u16) -> u8
-    ensures { result ≡ broken_by counts nets }
+fn check_counts(counts: Counts, nets: u16) -> Result<(), Refusal>
+    ensures { told_number result ≡ broken_by counts nets }
 {
-    if 2 < counts.clocks.count {
-        return 60;
+    if 2 < counts.clocks.count() {
+        return Err(Refusal::TooManyClocks);
     }
-    if 2 < counts.pairs.count {
-        return 61;
+    if 2 < counts.pairs.count() {
+        return Err(Refusal::TooManyPairs);
     }
-    if 2 < counts.clears.count {
-        return 62;
+    if 2 < counts.clears.count() {
+        return Err(Refusal::TooManyClears);
     }
-    if 1 < counts.synchronous.count {
-        return 63;
+    if 1 < counts.synchronous.count() {
+        return Err(Refusal::TooManySynchronous);
     }
     if MAX_NETS_IN < nets {
-        return 64;
+        return Err(Refusal::TooManyNets);
     }
-    0
+    Ok(())
 }
 
 // A need of the role, where the code is a net's.
@@ -199,16 +197,14 @@ fn broken_by(counts: Counts, nets: u16) -> u8
 fn with_code(needs: Needs, role: u8, code: u32) -> Needs
     ensures { result ≡ with_needs needs (needs_of_role role (net_codes (code ∷ []))) }
 {
-    if code < 4 {
+    let Ok(code) = u16::try_from(code) else {
         return needs;
+    };
+    let signal = Signal(code);
+    if signal.is_net() {
+        return needs.with(Need { role, signal });
     }
-    if 65535 < code {
-        return needs;
-    }
-    needs.with(Need {
-        role,
-        signal: Signal(code as u16),
-    })
+    needs
 }
 
 // Needs of the role for the codes that a counter holds, two at the most.
@@ -216,14 +212,11 @@ fn with_code(needs: Needs, role: u8, code: u32) -> Needs
 fn with_codes(needs: Needs, role: u8, codes: UpToTwo) -> Needs
     ensures { result ≡ with_needs needs (needs_of_role role (net_codes (codes_of codes))) }
 {
-    if codes.count == 1 {
-        return with_code(needs, role, codes.low);
+    match codes {
+        UpToTwo::One(code) => with_code(needs, role, code),
+        UpToTwo::Two(low, high) => with_code(with_code(needs, role, low), role, high),
+        UpToTwo::Empty | UpToTwo::More => needs,
     }
-    if codes.count == 2 {
-        let low = with_code(needs, role, codes.low);
-        return with_code(low, role, codes.high);
-    }
-    needs
 }
 
 // Needs of sclr and sload for the one pair that a counter holds.
@@ -231,14 +224,14 @@ fn with_codes(needs: Needs, role: u8, codes: UpToTwo) -> Needs
 fn with_only(needs: Needs, pairs: UpToTwo) -> Needs
     ensures { result ≡ with_needs (with_needs needs (needs_of_role SCLR (net_codes (map second (only_code pairs))))) (needs_of_role SLOAD (net_codes (map first (only_code pairs)))) }
 {
-    if pairs.count == 1 {
-        let sclr = with_code(needs, 3, pairs.low % 65536);
-        return with_code(sclr, 4, pairs.low / 65536);
-    }
-    needs
+    let UpToTwo::One(pair) = pairs else {
+        return needs;
+    };
+    with_code(with_code(needs, 3, pair % 65536), 4, pair / 65536)
 }
 
 // The needs that the counts hold, in the order of roles, then rising code.
+#[tactic(auto, using(crate::proofs::Steps::needs_are))]
 pub fn needs_held(counts: Counts) -> Needs
     ensures { result ≡ needs_of (needs_held counts) }
 {
@@ -248,38 +241,29 @@ pub fn needs_held(counts: Counts) -> Needs
     with_only(aclr, counts.synchronous)
 }
 
-// The result of a LAB with these counts and so many nets in, on a board with this entry table, and the tries.
-pub fn lab_search(table: EntryTable, counts: Counts, nets: u16) -> LabSearch
-    ensures { result ≡ searched table counts nets }
+// The result of a LAB with these counts and so many nets in, on a board with this entry table: its eight route bytes, or the lowest broken of 60 to 65.
+// And the tries of the search for its route: none where it breaks one of 60 to 64.
+#[tactic(auto, using(sheet::proofs::Refusals::refused_number, entries::proofs::NeedLists::list_needs_lem, crate::proofs::Steps::held_fits), unfolding(crate::specs::passes::Counts::searched, crate::specs::passes::Counts::result_from, crate::specs::passes::Counts::tries_for))]
+pub fn lab_search(table: EntryTable, counts: Counts, nets: u16) -> Search<Result<[u8; 8], Refusal>>
+    ensures { lab_search_from result ≡ searched table counts nets }
 {
-    let number = broken_by(counts, nets);
-    if number != 0 {
-        let result = LabResult {
-            number,
-            bytes: [255u8; 8],
+    if let Err(refusal) = check_counts(counts, nets) {
+        return Search {
+            found: Err(refusal),
+            tries: 0,
         };
-        return LabSearch { result, tries: 0 };
     }
-    let search = route::lab_route(table, needs_held(counts));
-    let route = search.route;
-    let tries = search.tries;
-    if route.found {
-        let bytes = route.bytes;
-        let result = LabResult { number: 0, bytes };
-        return LabSearch { result, tries };
+    let Search { found, tries } = route::lab_route(table, needs_held(counts));
+    Search {
+        found: found.ok_or(Refusal::NoWay),
+        tries,
     }
-    let result = LabResult {
-        number: 65,
-        bytes: [255u8; 8],
-    };
-    LabSearch { result, tries }
 }
 
 // The result alone.
 #[tactic(auto, unfolding(crate::specs::passes::Counts::searched))]
-pub fn lab_result(table: EntryTable, counts: Counts, nets: u16) -> LabResult
-    ensures { result ≡ result_from table counts nets }
+pub fn lab_result(table: EntryTable, counts: Counts, nets: u16) -> Result<[u8; 8], Refusal>
+    ensures { lab_result_from result ≡ result_from table counts nets }
 {
-    let search = lab_search(table, counts, nets);
-    search.result
+    lab_search(table, counts, nets).found
 }

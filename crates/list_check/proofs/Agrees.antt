@@ -11,8 +11,7 @@ use Rattle.exercise.specs.Exercise.{cell_count}
 use Rattle.sheet.proofs.Laws.{by_test}
 use Rattle.entries.specs.Table.{Table}
 use Rattle.route.specs.Way.{earliest_way}
-use Rattle.lab_rules.specs.Rules.{needs, lab_checks, lab_number, route_of, lab_result}
-use Rattle.lab_rules.specs.declared.LabResult.{LabResult}
+use Rattle.lab_rules.specs.Rules.{LabResult, needs, lab_checks, lab_number, route_of, lab_result}
 use Rattle.sheet.specs.Checks.{NONE}
 use Rattle.placing.specs.Members.{members}
 use Rattle.verdict.specs.declared.Finding.{Finding}

@@ -15,8 +15,7 @@ use Rattle.sheet.proofs.Laws.{by_test, or_parts}
 use Rattle.sheet.proofs.Order.{length_order, test_order}
 use Rattle.entries.specs.Table.{Table}
 use Rattle.route.specs.Route.{HoldsEarliest}
-use Rattle.lab_rules.specs.declared.LabResult.{LabResult}
-use Rattle.lab_rules.specs.Rules.{lab_number, route_of, lab_result, no_way}
+use Rattle.lab_rules.specs.Rules.{LabResult, lab_number, route_of, lab_result, no_way}
 use Rattle.settings.specs.Settings.{settings_number, table_of}
 use Rattle.settings.proofs.Laws.{settings_high}
 use Rattle.lab_rules.proofs.Checks.{not_18, lab_low}

@@ -3,3 +3,4 @@ pub mod Sheets
 pub mod Agrees
 pub mod Taken
 pub mod AnyList
+pub mod Bytes

@@ -2,14 +2,14 @@
 -- Assumes nothing.
 use Prim.Native.Nat.{ℕ, ◌+◌, ◌≤◌, ◌<◌}
 use mathlib.Core.Path.{◌≡◌, refl, sym, ap, ◌∙◌}
-use mathlib.Core.Bool.{Bool, true, false, cond, not, ◌&&◌, ◌||◌}
+use mathlib.Core.Bool.{Bool, true, false, cond, ◌||◌, or-true}
 use mathlib.Core.List.{List, [], ◌∷◌, map}
 use native.Mathlib.Omega.{arith}
 use native.Mathlib.Numerals.{add-one}
 use lib.ListN.{length, get_or, drop, replicate}
 use lib.Seq.{drop-cons, drop-length}
 use lib.Dec.{eqb, ltb}
-use borrow.Author.Tests.{eqb-true, eqb-false, ne_eqb, not-false}
+use borrow.Author.Tests.{eqb-true, eqb-false, ne_eqb, not-false, le-ltb}
 use Rattle.sheet.specs.Lists.{anyb}
 use Rattle.sheet.specs.Checks.{first_number}
 use Rattle.exercise.specs.declared.RegisterCell.{RegisterCell}
@@ -24,7 +24,7 @@ use Rattle.settings.proofs.Laws.{same_table}
 use Rattle.sheet.proofs.Checks.{in_turn}
 use Rattle.lab_nets.specs.passes.Uses.{uses_of, mark_cells, nets_within}
 use Rattle.lab_nets.proofs.Cells.{marks_cons, cells_counted}
-use Rattle.lab_rules.specs.Rules.{lab_checks, lab_number, lab_result}
+use Rattle.lab_rules.specs.Rules.{LabResult, lab_checks, lab_number, lab_result, lab_result_from}
 use Rattle.lab_rules.specs.declared.Counts.{Counts}
 use Rattle.lab_rules.specs.passes.Counts.{no_counts, counts_with, counts_all, refused, result_from, Fit, AllFit}
 use Rattle.lab_rules.proofs.Folded.{counts_are, nets_are}
@@ -34,48 +34,14 @@ use Rattle.netlist.specs.Cells.{register_checks}
 use Rattle.tables.proofs.Decoded.{inputs_good, outputs_good}
 use Rattle.judge.proofs.FitCells.{small_input, small_output, input_of_all, enable_clocked}
 use Rattle.exercise.specs.Record.{Cell, record_bytes}
-use Rattle.list_check.specs.declared.ListState.{ListState}
+use Rattle.std.specs.Prelude.{Ok, Err}
+use Rattle.sheet.specs.Refusals.{number_of}
+use Rattle.sheet.specs.declared.refusal.Refusal.{Refusal}
+use Rattle.sheet.specs.declared.refusal.Refusal.TheVariants.{UnfitList}
+use Rattle.sheet.proofs.Refusals.{refused_number}
+use Rattle.distinct.specs.declared.LabMarks.{LabMarks}
 use Rattle.list_check.specs.ListCheck.{record_from, unfit, no_list, list_number, list_verdict}
-use Rattle.list_check.specs.passes.State.{Kept, kept, no_state, list_marks, kept_with, kept_all, finished}
-
--- ---- what is kept
-and_true : (a : Bool) → a ≡ (a && true)
-and_true true = refl
-and_true false = refl
-
-and_not : (a u v : Bool) → ((a && not u) && not v) ≡ (a && not (u || v))
-and_not true true v = refl
-and_not true false v = refl
-and_not false u v = refl
-
-fit_all : (k : Kept) (cs : List Cell) → (kept_all k cs).state.fit ≡ (k.state.fit && not (anyb unfit (map record_from cs)))
-unfolding kept_all kept_with
-fit_all k [] = and_true k.state.fit
-fit_all k (c ∷ cs) = fit_all (kept_with k c) cs ∙ and_not k.state.fit (unfit (record_from c)) (anyb unfit (map record_from cs))
-
-counts_all_lem : (k : Kept) (cs : List Cell) → (kept_all k cs).state.counts ≡ counts_all k.state.counts (map record_from cs)
-unfolding kept_all kept_with counts_all
-counts_all_lem k [] = refl
-counts_all_lem k (c ∷ cs) = counts_all_lem (kept_with k c) cs
-
-marks_none : (m : Marking) → m ≡ mark_cells list_marks m []
-unfolding mark_cells mark_all
-marks_none m = refl
-
-abbrev marks_of : Kept → Marking
-marks_of k = marking k.marks k.state.nets
-
-marks_all : (k : Kept) (cs : List Cell) → marks_of (kept_all k cs) ≡ mark_cells list_marks (marks_of k) (map record_from cs)
-unfolding kept_all kept_with
-marks_all k [] = marks_none (marks_of k)
-marks_all k (c ∷ cs) = marks_all (kept_with k c) cs ∙ sym (marks_cons list_marks (marks_of k) (record_from c) (map record_from cs))
-
--- one record more: what it says, then what the marks, the counts and the fitness are
-pub one_kept : (k : Kept) (c : Cell) (d : Record) → d ≡ record_from c → (marks : List ℕ) (nets : ℕ) → marking marks nets ≡ mark_all list_marks (marks_of k) (uses_of d)
-    → (counts : Counts) → counts ≡ counts_with k.state.counts d → (bad : Bool) → bad ≡ unfit d
-    → kept (record { fit = k.state.fit && not bad; counts = counts; nets = nets }) marks ≡ kept_with k c
-unfolding kept_with
-one_kept k c d e marks nets m counts n bad u = rw (ap (λ (x : Marking). x.marks) m, ap (λ (x : Marking). x.count) m, n, u, e)
+use Rattle.list_check.specs.passes.Fit.{fit_record}
 
 -- ---- fit records
 register_kept : (r : RegisterCell) → unfit (Register r) ≡ false → first_number (register_checks r) ≡ 0
@@ -130,72 +96,92 @@ no_list_long cs h = ap (λ (b : Bool). b || anyb unfit (map record_from cs)) h
 pub too_long : (s : List ℕ) (cs : List Cell) → ltb 32 (length cs) ≡ true → refused 18 ≡ list_verdict s cs
 too_long s cs h = sym (list_refused s cs (no_list_long cs h))
 
-unfit_18 : (s : List ℕ) (k : ListState) → k.fit ≡ false → finished s k ≡ refused 18
-unfolding finished
-unfit_18 s k h = rw h
-
-unset_70s : (s : List ℕ) (k : ListState) → k.fit ≡ true → (settings_number s ≡ 0 → ⊥) → finished s k ≡ refused (settings_number s)
-unfolding finished
-unset_70s s k h n = rw (h, ne_eqb (settings_number s) 0 n)
-
-fit_result : (s : List ℕ) (k : ListState) → k.fit ≡ true → settings_number s ≡ 0
-    → finished s k ≡ result_from (eight_rows (table_of s)) k.counts k.nets
-unfolding finished
-fit_result s k h z = rw (h, z)
-
-no_list_unfit : (cs : List Cell) (b : Bool) → ltb 32 (length cs) ≡ false → anyb unfit (map record_from cs) ≡ b → no_list cs ≡ b
-unfolding no_list
-no_list_unfit cs b h e = rw (h, e)
-
--- before the first record
-abbrev began : Kept
-began = kept no_state (replicate 1024 0)
-
-began_fit : (cs : List Cell) (b : Bool) → anyb unfit (map record_from cs) ≡ b → (kept_all began cs).state.fit ≡ not b
-unfolding no_state
-began_fit cs b e = fit_all began cs ∙ rw e
-
-began_counts : (cs : List Cell) → (kept_all began cs).state.counts ≡ counts_all no_counts (map record_from cs)
-unfolding no_state
-began_counts cs = counts_all_lem began cs
-
-began_nets : (cs : List Cell) → (kept_all began cs).state.nets ≡ length (nets_within (map record_from cs))
-unfolding no_state
-began_nets cs =
-    ap (λ (m : Marking). m.count) (marks_all began cs)
-    ∙ cells_counted list_marks (omega arith) (replicate 1024 0) (lower_none 1024 1 (omega arith)) (map record_from cs)
-
 taken_is : (t : Table) (rs : List Record) → AllFit rs → result_from t (counts_all no_counts rs) (length (nets_within rs)) ≡ lab_result t rs
 taken_is t rs fit = rw (counts_are rs, nets_are rs fit) (result_is t rs fit)
 
--- 18, 70 to 75, and 60 to 65 of a list
-pub all_taken : (s : List ℕ) (cs : List Cell) → ltb 32 (length cs) ≡ false → finished s (kept_all began cs).state ≡ list_verdict s cs
-all_taken s cs h =
-    let k = (kept_all began cs).state in
-    by_test (anyb unfit (map record_from cs))
-    (λ e. unfit_18 s k (began_fit cs true e) ∙ sym (list_refused s cs (no_list_unfit cs true h e)))
-    (λ e. by_test (eqb (settings_number s) 0)
-    (λ q. let z = eqb-true (settings_number s) 0 q in
-    fit_result s k (began_fit cs false e) z
-    ∙ rw (began_counts cs, began_nets cs) (taken_is (eight_rows (table_of s)) (map record_from cs) (all_fit cs e))
-    ∙ same_result (eight_rows (table_of s)) (table_of s) (same_table s z) (map record_from cs)
-    ∙ sym (list_is_lab s (map record_from cs) cs refl (no_list_unfit cs false h e) z))
-    (λ q. let n = eqb-false (settings_number s) 0 q in
-    unset_70s s k (began_fit cs false e) n ∙ sym (list_unset s cs (no_list_unfit cs false h e) n)))
+-- ---- the loop over the records
+abbrev list_marks : LabMarks
+list_marks = record { read = 1; driven = 2 }
 
--- ---- the loop: the records from i on take what is kept to what all take the beginning to
-pub record Taking (cs : List Cell) (k : Kept) (i : ℕ) : Type 0 where
+-- the records before i are fit, and those from i on add to the counts and the marks what all add to none
+pub record Taken (cs : List Cell) (counts : Counts) (m : Marking) (i : ℕ) : Type 0 where
   pub within : i ≤ length cs
-  pub same : kept_all began cs ≡ kept_all k (drop i cs)
+  pub fit : anyb unfit (map record_from cs) ≡ anyb unfit (map record_from (drop i cs))
+  pub counted : counts_all no_counts (map record_from cs) ≡ counts_all counts (map record_from (drop i cs))
+  pub marked : mark_cells list_marks (marking (replicate 1024 0) 0) (map record_from cs) ≡ mark_cells list_marks m (map record_from (drop i cs))
 
-pub taking_starts : (cs : List Cell) (s : ListState) → s ≡ no_state → Taking cs (kept s (replicate 1024 0)) 0
-taking_starts cs s e = record { within = omega arith; same = rw e }
+pub take_starts : (cs : List Cell) (counts : Counts) → counts ≡ no_counts → Taken cs counts (marking (replicate 1024 0) 0) 0
+take_starts cs counts e = record { within = omega arith; fit = refl; counted = rw e; marked = refl }
 
-module _ (cs : List Cell) (k : Kept) (i : ℕ) (s : Taking cs k i) where
-  pub taking_goes : (next : Kept) → i < length cs → next ≡ kept_with k (get_or cs i []) → Taking cs next (i + 1)
-  unfolding kept_all
-  taking_goes next h e = record { within = omega arith; same = s.same ∙ rw (drop-cons cs i [] h, e, add-one) }
+-- a record that is fit, and one that is not
+fit_is : (c : Cell) (r : Record) → Ok r ≡ fit_record c → (unfit (record_from c) ≡ false) × (r ≡ record_from c)
+unfolding fit_record
+fit_is c r h =
+    by_test (unfit (record_from c)) (λ t. let none : Ok r ≡ Err UnfitList = rw t at h in absurd (cc)) (λ t. (t, let same : Ok r ≡ Ok (record_from c) = rw t at h in cc))
 
-  pub taking_ends : length cs ≤ i → kept_all began cs ≡ k
-  unfolding kept_all
-  taking_ends h = let all : i ≡ length cs = omega (arith, s.within) in s.same ∙ rw (all, drop-length)
+unfit_is : (c : Cell) (f : Refusal) → Err f ≡ fit_record c → (unfit (record_from c) ≡ true) × (f ≡ UnfitList)
+unfolding fit_record
+unfit_is c f h =
+    by_test (unfit (record_from c)) (λ t. (t, let same : Err f ≡ Err UnfitList = rw t at h in cc)) (λ t. let none : Err f ≡ Ok (record_from c) = rw t at h in absurd (cc))
+
+module _ (cs : List Cell) (counts : Counts) (m : Marking) (i : ℕ) (s : Taken cs counts m i) where
+  module _ (h : i < length cs) where
+    pub take_goes : (r : Record) → Ok r ≡ fit_record (get_or cs i []) → (counts' : Counts) → counts' ≡ counts_with counts r → (m' : Marking) → m' ≡ mark_all list_marks m (uses_of r)
+        → Taken cs counts' m' (i + 1)
+    unfolding counts_all
+    take_goes r e counts' p m' q =
+        let f = fit_is (get_or cs i []) r e in
+        record {
+          within = omega arith;
+          fit = s.fit ∙ rw (drop-cons cs i [] h, f.0, add-one);
+          counted = s.counted ∙ rw (drop-cons cs i [] h, add-one, p, f.1);
+          marked = s.marked ∙ rw (drop-cons cs i [] h, add-one, marks_cons, q, f.1);
+        }
+
+    -- 18
+    pub take_stops : (f : Refusal) → Err f ≡ fit_record (get_or cs i []) → (t : List ℕ) → lab_result_from (Err f) ≡ list_verdict t cs
+    unfolding no_list
+    take_stops f e t =
+        let u = unfit_is (get_or cs i []) f e in
+        let some : anyb unfit (map record_from cs) ≡ true = s.fit ∙ rw (drop-cons cs i [] h, u.0) in
+        let broken : no_list cs ≡ true = rw some (or-true (ltb 32 (length cs))) in
+        ap (λ (r : Refusal). lab_result_from (Err r)) u.1 ∙ sym (list_refused t cs broken)
+
+  -- after the last record, of 32 at the most
+  module _ (end : length cs ≤ i) (few : length cs ≤ 32) where
+    none_left : drop i cs ≡ []
+    none_left = let all : i ≡ length cs = omega (arith, s.within) in rw (all, drop-length)
+
+    fit_all : anyb unfit (map record_from cs) ≡ false
+    fit_all = s.fit ∙ rw none_left
+
+    is_list : no_list cs ≡ false
+    unfolding no_list
+    is_list = rw (le-ltb 32 (length cs) few, fit_all)
+
+    counts_end : counts ≡ counts_all no_counts (map record_from cs)
+    unfolding counts_all
+    counts_end = sym (s.counted ∙ rw none_left)
+
+    marks_end : m ≡ mark_cells list_marks (marking (replicate 1024 0) 0) (map record_from cs)
+    unfolding mark_cells mark_all
+    marks_end = sym (s.marked ∙ rw none_left)
+
+    nets_end : m.count ≡ length (nets_within (map record_from cs))
+    nets_end =
+        ap (λ (x : Marking). x.count) marks_end
+        ∙ cells_counted list_marks (omega arith) (replicate 1024 0) (lower_none 1024 1 (omega arith)) (map record_from cs)
+
+    -- 70 to 75
+    pub settings_stop : (t : List ℕ) (f : Refusal) → number_of f ≡ settings_number t → lab_result_from (Err f) ≡ list_verdict t cs
+    settings_stop t f e =
+        let broken : settings_number t ≡ 0 → ⊥ = λ z. eqb-false (number_of f) 0 (refused_number f) (e ∙ z) in
+        ap refused e ∙ sym (list_unset t cs is_list broken)
+
+    -- 60 to 65
+    pub list_ends : (t : List ℕ) → 0 ≡ settings_number t → (r : LabResult) → r ≡ result_from (eight_rows (table_of t)) counts m.count → r ≡ list_verdict t cs
+    list_ends t e r q =
+        let z = sym e in
+        q ∙ rw (counts_end, nets_end) (taken_is (eight_rows (table_of t)) (map record_from cs) (all_fit cs fit_all))
+        ∙ same_result (eight_rows (table_of t)) (table_of t) (same_table t z) (map record_from cs)
+        ∙ sym (list_is_lab t (map record_from cs) cs refl is_list z)

@@ -8,8 +8,7 @@ use Rattle.exercise.specs.Record.{Cell, record_bytes, record_of}
 use Rattle.exercise.specs.declared.Record.{Record}
 use Rattle.exercise.specs.declared.Record.TheVariants.{Combinational, Register, Malformed}
 use Rattle.settings.specs.Settings.{settings_checks, table_of}
-use Rattle.lab_rules.specs.declared.LabResult.{LabResult}
-use Rattle.lab_rules.specs.Rules.{lab_checks, route_of}
+use Rattle.lab_rules.specs.Rules.{LabResult, lab_checks, route_of}
 use Rattle.netlist.specs.Cells.{register_checks}
 
 -- what the record says, at 1,024 nets

@@ -2,53 +2,28 @@
 
 ghost use Rattle.std.specs.Prelude.{◌≡◌};
 ghost use Rattle.exercise.specs.Record.{record_bytes};
-ghost use Rattle.lab_rules.specs.passes.Counts.{refused};
+ghost use Rattle.lab_rules.specs.Rules.{lab_result_from};
 ghost use Rattle.list_check.specs.ListCheck.{record_from, unfit, list_verdict};
-ghost use Rattle.list_check.specs.passes.State.{kept, kept_with, no_state, finished};
+ghost use Rattle.list_check.specs.passes.Fit.{fit_record};
 
 use distinct::LabMarks;
 use exercise::{Cell, Record};
-use lab_rules::{Counts, LabResult};
+use lab_rules::Counts;
+use sheet::Refusal;
 
-// What is kept of a list's records: whether all were fit, and what the LAB's rules count.
-#[derive(Clone, Copy)]
-pub struct ListState {
-    pub fit: bool,
-    pub counts: Counts,
-    pub nets: u16,
-}
+// A list of more cells is no LAB's.
+const MAX_CELLS: usize = 32;
 
 // The 24 bytes of a record.
-#[tactic(auto, unfolding(exercise::specs::Record::record_bytes))]
+#[tactic(auto, using(crate::proofs::Bytes::put_goes), unfolding(exercise::specs::Record::record_bytes))]
 fn bytes_of(cell: Cell) -> [u8; 24]
     ensures { result ≡ record_bytes cell }
 {
-    [
-        sheet::low_byte(cell[0]),
-        sheet::high_byte(cell[0]),
-        sheet::low_byte(cell[1]),
-        sheet::high_byte(cell[1]),
-        sheet::low_byte(cell[2]),
-        sheet::high_byte(cell[2]),
-        sheet::low_byte(cell[3]),
-        sheet::high_byte(cell[3]),
-        sheet::low_byte(cell[4]),
-        sheet::high_byte(cell[4]),
-        sheet::low_byte(cell[5]),
-        sheet::high_byte(cell[5]),
-        sheet::low_byte(cell[6]),
-        sheet::high_byte(cell[6]),
-        sheet::low_byte(cell[7]),
-        sheet::high_byte(cell[7]),
-        sheet::low_byte(cell[8]),
-        sheet::high_byte(cell[8]),
-        sheet::low_byte(cell[9]),
-        sheet::high_byte(cell[9]),
-        sheet::low_byte(cell[10]),
-        sheet::high_byte(cell[10]),
-        sheet::low_byte(cell[11]),
-        sheet::high_byte(cell[11]),
-    ]
+    let mut bytes = [0; 24];
+    for (j, &n) in cell.iter().enumerate() {
+        bytes[2 * j..2 * j + 2].copy_from_slice(&sheet::u16_bytes(n));
+    }
+    bytes
 }
 
 // What a record says, at 1,024 nets.
@@ -56,86 +31,51 @@ fn bytes_of(cell: Cell) -> [u8; 24]
 fn record_from(cell: Cell) -> Record
     ensures { result ≡ record_from cell }
 {
-    let bytes = bytes_of(cell);
-    exercise::decode_record(&bytes, exercise::MAX_NETS)
+    exercise::decode_record(&bytes_of(cell), exercise::MAX_NETS)
 }
 
 // Whether a record breaks the layout or one of 30 to 35.
-#[tactic(auto, unfolding(crate::specs::ListCheck::unfit))]
+#[tactic(auto, using(sheet::proofs::Refusals::refused_number), unfolding(crate::specs::ListCheck::unfit))]
 fn is_unfit(cell: Record) -> bool
     ensures { result ≡ unfit cell }
 {
     match cell {
-        Record::Combinational(_) => return false,
-        Record::Register(c) => return netlist::register_number(c) != 0,
-        Record::Malformed => return true,
+        Record::Combinational(_) => false,
+        Record::Register(c) => netlist::check_register(c).is_err(),
+        Record::Malformed => true,
     }
 }
 
-// Before the first record.
-#[tactic(auto, unfolding(crate::specs::passes::State::no_state))]
-fn start() -> ListState
-    ensures { result ≡ no_state }
+// What a record says that is fit.
+#[tactic(auto, unfolding(crate::specs::passes::Fit::fit_record))]
+fn fit_record(cell: Cell) -> Result<Record, Refusal>
+    ensures { result ≡ fit_record cell }
 {
-    ListState {
-        fit: true,
-        counts: Counts::none(),
-        nets: 0,
+    let record = record_from(cell);
+    if is_unfit(record) {
+        return Err(Refusal::UnfitList);
     }
-}
-
-// One record more.
-fn take_cell(state: ListState, marks: &mut [u16], cell: Cell) -> ListState
-    ensures { kept result marks.new ≡ kept_with (kept state marks.old) cell }
-{
-    let decoded = record_from(cell);
-    let lab = LabMarks { read: 1, driven: 2 };
-    let nets = lab_nets::mark_cell(marks, lab, state.nets, decoded);
-    let counts = state.counts.with(decoded);
-    let fit = state.fit & !is_unfit(decoded);
-    ListState { fit, counts, nets }
-}
-
-// A number with eight 255s.
-fn refusal(number: u8) -> LabResult
-    ensures { result ≡ refused number }
-{
-    LabResult {
-        number,
-        bytes: [255u8; 8],
-    }
-}
-
-// After the last record: 18 where one was unfit, 70 to 75 of the settings sheet, otherwise the result of a LAB of its board.
-#[tactic(auto, unfolding(crate::specs::passes::State::finished))]
-fn finish(settings: &[u8], state: ListState) -> LabResult
-    ensures { result ≡ finished settings.now state }
-{
-    if !state.fit {
-        return refusal(18);
-    }
-    let number = settings::settings_number(settings);
-    if number != 0 {
-        return refusal(number);
-    }
-    lab_rules::lab_result(settings::entry_table(settings), state.counts, state.nets)
+    Ok(record)
 }
 
 // The check of one LAB on a lent list of its cells, on the board of a settings sheet: 18 for over 32 of them or an unfit one, else 70 to 75 of the
-// sheet, else the lowest broken of 60 to 65, or 0 with the LAB's eight route bytes.
-pub fn check_list(settings: &[u8], cells: &[Cell]) -> LabResult
-    ensures { result ≡ list_verdict settings.now cells.now }
+// sheet, else the lowest broken of 60 to 65, or the LAB's eight route bytes.
+#[tactic(auto, using(crate::proofs::Taken::too_long, crate::proofs::Taken::take_stops, crate::proofs::Taken::settings_stop, crate::proofs::Taken::list_ends))]
+pub fn check_list(settings: &[u8], cells: &[Cell]) -> Result<[u8; 8], Refusal>
+    ensures { lab_result_from result ≡ list_verdict settings.now cells.now }
 {
-    let n = cells.len();
-    if 32 < n {
-        return refusal(18);
+    if MAX_CELLS < cells.len() {
+        return Err(Refusal::UnfitList);
     }
-    let mut state = start();
-    let mut marks = [0u16; 1024];
-    let mut i: usize = 0;
-    while i < n {
-        state = take_cell(state, &mut marks, cells[i]);
-        i += 1;
+    let lab = LabMarks { read: 1, driven: 2 };
+    let mut marks = [0; 1024];
+    let mut nets = 0;
+    let mut counts = Counts::none();
+    for &cell in cells {
+        let record = fit_record(cell)?;
+        nets = lab_nets::mark_cell(&mut marks, lab, nets, record);
+        counts = counts.with(record);
     }
-    finish(settings, state)
+    settings::check_settings(settings)?;
+    lab_rules::lab_result(settings::entry_table(settings), counts, nets)
 }

@@ -8,6 +8,7 @@ use borrow.Author.Tests.{lt-ltb, le-ltb, ltb-true, ltb-false}
 use lib.Dec.{ltb}
 use lib.ListN.{length, length-append}
 use Rattle.sheet.proofs.Laws.{by_test}
+use Rattle.listing.specs.declared.Page.{Page}
 use Rattle.listing.specs.Text.{digit, digits, decimal, value_after, value_of}
 use Rattle.listing.specs.passes.Writes.{Writes}
 use Rattle.listing.proofs.Writing.{◌then◌, within}
@@ -47,15 +48,15 @@ decimal_few : (n : ℕ) → n < 2 ^ 32 → length (decimal n) ≤ 10
 unfolding decimal
 decimal_few n h = digits_few 9 n n (omega arith)
 
--- ---- the two ways out of `write_decimal`
-pub one_digit : {l m : List ℕ} {at p : ℕ} (n : ℕ) → n < 10 → Writes l at (digit n ∷ []) 1 m p → Writes l at (decimal n) 10 m p
-one_digit n h w = rw (decimal_one n h) (within 10 (omega arith) w)
+-- ---- the two ways out of `number`
+pub one_digit : {p q : Page} (n : ℕ) → n < 10 → Writes p (digit (n % 10) ∷ []) 1 q → Writes p (decimal n) 10 q
+one_digit n h w = let same : n % 10 ≡ n = omega arith in rw (decimal_one n h) (within 10 (omega arith) (rw same at w))
 
-pub more_digits : {l m o : List ℕ} {at p q : ℕ} (n : ℕ) → 10 ≤ n → n < 2 ^ 32 → Writes l at (decimal (n / 10)) 10 m p
-    → Writes m p (digit (n % 10) ∷ []) 1 o q → Writes l at (decimal n) 10 o q
-more_digits {l} {m} {o} {at} {p} {q} n h b v w =
-    let both : Writes l at (decimal n) 11 o q = rw (decimal_more n h) (v then w) in
-    record { stored = both.stored; past = both.past; short = omega (arith, both.past, decimal_few n b) }
+pub more_digits : {p q r : Page} (n : ℕ) → 10 ≤ n → n < 2 ^ 32 → Writes p (decimal (n / 10)) 10 q → Writes q (digit (n % 10) ∷ []) 1 r
+    → Writes p (decimal n) 10 r
+more_digits {p} {q} {r} n h b v w =
+    let both : Writes p (decimal n) 11 r = rw (decimal_more n h) (v then w) in
+    record { stored = both.stored; past = both.past; short = omega (arith, both.past, decimal_few n b); same_reference = both.same_reference }
 
 -- ---- the digits say the number
 value_last : (ds : List ℕ) (m d : ℕ) → value_after m (ds ++ d ∷ []) ≡ 10 * value_after m ds + (d - 48)

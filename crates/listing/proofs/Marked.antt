@@ -1,99 +1,84 @@
 -- The marked LABs are the occupied ones, and their lines, written from the route buffer of a legal verdict, are those of the listing.
 -- Assumes nothing.
-use Prim.Native.Nat.{ℕ, zero, suc, ◌+◌, ◌-◌, ◌*◌, ◌≤◌, ◌<◌}
+use Prim.Native.Nat.{ℕ, zero, suc, ◌+◌, ◌*◌, ◌<◌}
 use mathlib.Core.Path.{◌≡◌, refl, sym, ap, ◌∙◌}
-use mathlib.Core.Bool.{Bool, ◌||◌, or_assoc, or-true, or-false}
-use mathlib.Core.List.{List, [], ◌∷◌, ◌++◌}
+use mathlib.Core.Bool.{Bool, true, false, cond, ◌||◌, or-true, or-false}
+use mathlib.Core.List.{List, [], ◌++◌}
 use native.Mathlib.Nat.{add-zero}
 use native.Mathlib.Numerals.{add-one}
 use native.Mathlib.Omega.{arith}
-use borrow.Author.Tests.{eqb-true, eqb-false, eq-eqb, ne_eqb}
+use borrow.Author.Tests.{eqb-true, eqb-false}
 use lib.Dec.{eqb}
-use lib.ListN.{length, get_or, set, length-set, replicate, length-replicate, get_or-replicate}
+use lib.ListN.{length, get_or, set, length-set, length-replicate, get_or-replicate}
 use lib.Seq.{get_or-set_same, get_or-set_other}
-use Rattle.sheet.specs.Lists.{concat_map, filterb, anyb, from}
+use Rattle.sheet.specs.Lists.{concat_map, filterb, anyb, from, below}
 use Rattle.sheet.specs.Bytes.{byte_at}
 use Rattle.exercise.specs.Exercise.{cell_count}
 use Rattle.sheet.proofs.Laws.{by_test}
+use Rattle.sheet.proofs.Lists.{any-suc, concat-suc}
 use Rattle.route.specs.Way.{earliest_way}
 use Rattle.lab_rules.specs.Rules.{needs, route_of}
 use Rattle.placing.specs.Places.{lab_at}
 use Rattle.judge.specs.Call.{Call, in_force}
 use Rattle.judge.specs.Judge.{lab_cells, occupied, judged, routed}
 use Rattle.judge.proofs.RouteHeld.{row_at_lem, route_eight, written}
-use Rattle.listing.specs.passes.Writes.{Writes}
+use Rattle.listing.specs.declared.Page.{Page}
 use Rattle.listing.specs.Listing.{lab_line, lab_lines}
-use Rattle.listing.specs.passes.Marks.{marked_from, is_marked, row_at, line_at, lines_from}
-use Rattle.listing.proofs.Writing.{over_one, nothing, same_long}
+use Rattle.listing.specs.passes.Writes.{Writes}
+use Rattle.listing.specs.passes.Marks.{marks_of, is_marked, row_at, line_at, lines_below}
+use Rattle.listing.proofs.Writing.{◌then◌, nothing, within}
 
--- ---- the loop of `mark_labs`
--- the marks were m₀, and what the cells from i on mark makes the marks of all n cells
-pub record Marking (a : List ℕ) (n : ℕ) (m₀ m : List ℕ) (i : ℕ) : Type 0 where
-  pub same : marked_from a m₀ 0 n ≡ marked_from a m i (n - i)
-  pub long : length m ≡ length m₀
-
-pub mark_starts : (a : List ℕ) (n : ℕ) (m : List ℕ) → Marking a n m m 0
-mark_starts a n m = record { same = ap (marked_from a m 0) (omega arith); long = refl }
-
-pub mark_goes : (a : List ℕ) (n : ℕ) (m₀ m : List ℕ) {m' : List ℕ} (i : ℕ) {lab p : ℕ} → Marking a n m₀ m i → i < n → lab ≡ lab_at a i
-    → Writes m lab (1 ∷ []) 1 m' p → Marking a n m₀ m' (i + 1)
-unfolding marked_from
-mark_goes a n m₀ m {m'} i {lab} s h e w =
-    let more : n - i ≡ suc (n - (i + 1)) = omega arith in
-    let marked : m' ≡ set m (lab_at a i) 1 = w.stored ∙ over_one m lab 1 ∙ rw e in
-    record { same = s.same ∙ rw (more, add-one i, marked); long = same_long w ∙ s.long }
-
-pub mark_ends : (a : List ℕ) (n : ℕ) (m₀ m : List ℕ) (i : ℕ) → Marking a n m₀ m i → n ≤ i → m ≡ marked_from a m₀ 0 n
-unfolding marked_from
-mark_ends a n m₀ m i s h = let none : n - i ≡ zero = omega arith in sym (s.same ∙ rw none)
-
--- ---- a LAB is marked where it was, or where a cell stands in it
-mark_one : (m : List ℕ) (at l : ℕ) → l < length m → is_marked (set m at 1) l ≡ is_marked m l || eqb at l
+-- ---- a LAB is marked where a cell stands in it
+mark_one : (m : List Bool) (at l : ℕ) → l < length m → is_marked (set m at true) l ≡ is_marked m l || eqb at l
 mark_one m at l h =
     by_test (eqb at l)
-    (λ t. rw (t, eqb-true at l t, get_or-set_same m l 1 0 h, or-true))
-    (λ t. rw (t, get_or-set_other m at l 1 0 (λ q. eqb-false at l t (sym q)), or-false))
+    (λ t. rw (t, eqb-true at l t, get_or-set_same m l true false h, or-true))
+    (λ t. rw (t, get_or-set_other m at l true false (λ q. eqb-false at l t (sym q)), or-false))
 
-marks_from : (a m : List ℕ) (l i k : ℕ) → l < length m → is_marked (marked_from a m i k) l ≡ is_marked m l || anyb (λ j. eqb (lab_at a j) l) (from i k)
-unfolding marked_from
-marks_from a m l i zero h = sym (or-false (is_marked m l))
-marks_from a m l i (suc k) h =
-    marks_from a (set m (lab_at a i) 1) l (suc i) k (rw length-set h)
-    ∙ rw (mark_one m (lab_at a i) l h, or_assoc)
+marks_long : (a : List ℕ) (n : ℕ) → length (marks_of a n) ≡ 1024
+unfolding marks_of
+marks_long a zero = length-replicate {A = Bool} 1024 false
+marks_long a (suc n) = rw length-set (marks_long a n)
 
--- no LAB is marked at first
-pub occupied_marked : (c : Call) (l : ℕ) → l < 1024
-    → is_marked (marked_from c.answer (replicate 1024 0) 0 (cell_count c.exercise)) l ≡ occupied c l
+marks_any : (a : List ℕ) (l n : ℕ) → l < 1024 → is_marked (marks_of a n) l ≡ anyb (λ j. eqb (lab_at a j) l) (below n)
+unfolding marks_of
+marks_any a l zero h = get_or-replicate {A = Bool} 1024 l false false h
+marks_any a l (suc n) h =
+    mark_one (marks_of a n) (lab_at a n) l (rw (marks_long a n) h)
+    ∙ rw (marks_any a l n h, any-suc (λ j. eqb (lab_at a j) l) n)
+
+pub occupied_marked : (c : Call) (l : ℕ) → l < 1024 → is_marked (marks_of c.answer (cell_count c.exercise)) l ≡ occupied c l
 unfolding occupied
-occupied_marked c l h =
-    marks_from c.answer (replicate 1024 0) l 0 (cell_count c.exercise) (rw length-replicate h) ∙ rw (get_or-replicate {A = ℕ} 1024 l 0 0 h)
+occupied_marked c l h = marks_any c.answer l (cell_count c.exercise) h
 
--- ---- the loop of `lab_lines`
-module _ (marks route : List ℕ) where
-  pub lines_step : (n l : ℕ) → l < n → lines_from marks route l (n - l) ≡ line_at marks route l ++ lines_from marks route (l + 1) (n - (l + 1))
-  unfolding lines_from line_at
-  lines_step n l h =
-      let more : n - l ≡ suc (n - (l + 1)) = omega arith in
-      rw (more, add-one l) (by_test (is_marked marks l) (λ t. rw t) (λ t. rw t))
+-- ---- the lines, one LAB after the other
+module _ (marks : List Bool) (route : List ℕ) where
+  lines_more : (n : ℕ) → lines_below marks route (n + 1) ≡ lines_below marks route n ++ line_at marks route n
+  unfolding lines_below
+  lines_more n = rw add-one (concat-suc (line_at marks route) n)
 
-  pub lines_end : (n l : ℕ) → n ≤ l → lines_from marks route l (n - l) ≡ []
-  unfolding lines_from
-  lines_end n l h = let none : n - l ≡ zero = omega arith in rw none
+  pub no_lines : (p : Page) → Writes p (lines_below marks route 0) 0 p
+  unfolding lines_below
+  no_lines p = nothing p 0
 
-  -- the two ways out of `line_at`
-  pub line_marked : {m n bytes : List ℕ} {at p k b : ℕ} (l : ℕ) → b ≡ byte_at marks l → b ≡ 1 → bytes ≡ row_at route l
-      → Writes m at (lab_line l bytes) k n p → Writes m at (line_at marks route l) k n p
+  pub line_more : {p q r : Page} (n : ℕ) → Writes p (lines_below marks route n) (127 * n) q → Writes q (line_at marks route n) 127 r
+      → Writes p (lines_below marks route (n + 1)) (127 * (n + 1)) r
+  line_more n v w = rw (lines_more n) (within (127 * (n + 1)) (omega arith) (v then w))
+
+  -- the two ways past a LAB
+  pub marked : {p q : Page} {bytes : List ℕ} (l : ℕ) → is_marked marks l ≡ true → bytes ≡ row_at route l
+      → Writes p (lab_line l bytes) 127 q → Writes p (line_at marks route l) 127 q
   unfolding line_at
-  line_marked l q h e w = rw (eq-eqb (byte_at marks l) 1 (sym q ∙ h), ← e) w
+  marked l t e w = rw (t, ← e) w
 
-  pub no_line : {m : List ℕ} {at b : ℕ} (k l : ℕ) → b ≡ byte_at marks l → (b ≡ 1 → ⊥) → Writes m at (line_at marks route l) k m at
+  pub unmarked : (p : Page) (l : ℕ) → is_marked marks l ≡ false → Writes p (line_at marks route l) 127 p
   unfolding line_at
-  no_line {m} {at} k l q h = rw (ne_eqb (byte_at marks l) 1 (λ z. h (q ∙ z))) (nothing m at k)
+  unmarked p l t = rw t (nothing p 127)
 
 -- ---- the lines of a legal verdict
 module _ (f g : ℕ → List ℕ) (p q : ℕ → Bool) where
   lines_same : (i k : ℕ) → ((l : ℕ) → l < i + k → f l ≡ g l) → ((l : ℕ) → l < i + k → p l ≡ q l)
-      → concat_map f (filterb p (from i k)) ≡ concat_map g (filterb q (from i k))
+      → concat_map (λ l. cond (p l) (f l) []) (from i k) ≡ concat_map g (filterb q (from i k))
   lines_same i zero s t = refl
   lines_same i (suc k) s t =
       let rest = lines_same (suc i) k (λ l h. s l (omega arith)) (λ l h. t l (omega arith)) in
@@ -122,11 +107,11 @@ module _ (c : Call) (before : List ℕ) (legal : (judged c).number ≡ 0) where
       let first : byte_at route (8 * l) ≡ get_or (bytes l) 0 0 = rw add-zero at (b 0 (omega arith)) in
       rw (first, b 1 (omega arith), b 2 (omega arith), b 3 (omega arith), b 4 (omega arith), b 5 (omega arith), b 6 (omega arith), b 7 (omega arith))
 
-  abbrev marks : List ℕ
-  marks = marked_from c.answer (replicate 1024 0) 0 (cell_count c.exercise)
+  abbrev marks : List Bool
+  marks = marks_of c.answer (cell_count c.exercise)
 
-  pub legal_lines : lines_from marks route 0 1024 ≡ lab_lines c
-  unfolding lines_from lab_lines
+  pub legal_lines : lines_below marks route 1024 ≡ lab_lines c
+  unfolding lines_below line_at lab_lines
   legal_lines =
       lines_same (λ l. lab_line l (row_at route l)) (λ l. lab_line l (bytes l)) (is_marked marks) (occupied c) 0 1024
       (λ l h. line_same l (omega arith)) (λ l h. occupied_marked c l (omega arith))

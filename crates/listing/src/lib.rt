@@ -1,11 +1,11 @@
 #![tactic(auto)]
 
-ghost use Rattle.std.specs.Prelude.{◌≡◌, [], ◌∷◌, ◌++◌, ◌+◌, ◌≤◌, length};
+ghost use Rattle.std.specs.Prelude.{◌≡◌, [], ◌∷◌, ◌++◌, ◌+◌, ◌≤◌, length, set};
 ghost use Rattle.settings.specs.House.{house_settings};
 ghost use Rattle.listing.specs.Text.{ascii, decimal, overwrite, MOST};
-ghost use Rattle.listing.specs.passes.Writes.{Fits, Writes};
-ghost use Rattle.listing.specs.Listing.{or_dash, place, entry, verdict_line, lab_line, listing};
-ghost use Rattle.listing.specs.passes.Marks.{row_at, marked_from, line_at, lines_from};
+ghost use Rattle.listing.specs.passes.Writes.{Fits, Writes, number_or_dash};
+ghost use Rattle.listing.specs.Listing.{place, entry, verdict_line, lab_line, listing};
+ghost use Rattle.listing.specs.passes.Marks.{row_at, marks_of, lines_below};
 
 use judge::NONE;
 use sheet::CellNumber;
@@ -17,117 +17,129 @@ pub const MOST: usize = 72 + 127 * 1024;
 // A route byte where there is no need.
 const NO_ENTRY: u8 = 255;
 
-// Stores a byte at a place, where the buffer has it, and answers the place after it.
-fn store(out: &mut [u8], at: usize, byte: u8) -> usize
-    requires { Fits at 0 }
-    ensures { Writes out.old at (byte ∷ []) 1 out.new result }
-{
-    if at < out.len() {
-        out[at] = byte;
-        return at + 1;
-    }
-    at + 1
+// A lent buffer and the place where the next byte goes. What the buffer has no room for is dropped. Not a writer of `write!`, whose contract
+// leaves open that it fails.
+#[derive(Drop)]
+struct Page<'a> {
+    out: &'a mut [u8],
+    at: usize,
 }
 
-// Writes a word.
-fn write_word(out: &mut [u8], at: usize, word: &[u8]) -> usize
-    requires { Fits at (length word.now) }
-    ensures { Writes out.old at word.now (length word.now) out.new result }
-{
-    let mut next = at;
-    let mut i: usize = 0;
-    while i < word.len() {
-        next = store(out, next, word[i]);
-        i += 1;
+impl Page<'_> {
+    // A byte.
+    #[tactic(auto, unfolding(crate::specs::Text::overwrite))]
+    fn byte(&mut self, byte: u8)
+        requires { Fits self.old.at 0 }
+        ensures { Writes self.old (byte ∷ []) 1 self.new }
+    {
+        sheet::put(self.out, self.at, byte);
+        self.at += 1;
     }
-    next
+
+    // A text.
+    fn text(&mut self, text: &[u8])
+        requires { Fits self.old.at (length text.now) }
+        ensures { Writes self.old text.now (length text.now) self.new }
+    {
+        for &byte in text {
+            self.byte(byte);
+        }
+    }
+
+    // A number in decimal.
+    fn number(&mut self, n: u32)
+        requires { Fits self.old.at 10 }
+        ensures { Writes self.old (decimal n) 10 self.new }
+    {
+        if n >= 10 {
+            self.number(n / 10);
+        }
+        self.byte(b'0' + (n % 10) as u8);
+    }
+
+    // A name and a number, or a dash where there is none.
+    fn field(&mut self, name: &[u8], n: Option<u32>)
+        requires { Fits self.old.at (length name.now + 10) }
+        ensures { Writes self.old (name.now ++ number_or_dash n) (length name.now + 10) self.new }
+    {
+        self.text(name);
+        match n {
+            Some(n) => self.number(n),
+            None => self.byte(b'-'),
+        }
+    }
+
+    // The line of a verdict.
+    fn verdict_line(&mut self, v: Verdict)
+        requires { Fits self.old.at 72 }
+        ensures { Writes self.old (verdict_line v) 72 self.new }
+    {
+        self.field(b"verdict ", Some(u32::from(v.number)));
+        self.field(b" cell ", place(v.cell));
+        self.field(b" lab ", place(v.lab));
+        self.field(b" apprentice ", Some(v.apprentice));
+        self.byte(b'\n');
+    }
+
+    // The line of a LAB with these route bytes.
+    fn lab_line(&mut self, lab: u16, bytes: [u8; 8])
+        requires { Fits self.old.at 127 }
+        ensures { Writes self.old (lab_line lab bytes) 127 self.new }
+    {
+        self.field(b"lab ", Some(u32::from(lab)));
+        self.field(b" clk ", entry(bytes[0]));
+        self.field(b" ", entry(bytes[1]));
+        self.field(b" ena ", entry(bytes[2]));
+        self.field(b" ", entry(bytes[3]));
+        self.field(b" aclr ", entry(bytes[4]));
+        self.field(b" ", entry(bytes[5]));
+        self.field(b" sclr ", entry(bytes[6]));
+        self.field(b" sload ", entry(bytes[7]));
+        self.byte(b'\n');
+    }
+
+    // The lines of the marked LABs, rising.
+    fn lab_lines(&mut self, marks: &[bool; 1024], route: &[u8])
+        requires { Fits self.old.at 130048 }
+        ensures { Writes self.old (lines_below marks.now route.now 1024) 130048 self.new }
+    {
+        for lab in 0..lab_pass::LABS {
+            if marks[usize::from(lab)] {
+                self.lab_line(lab, row(route, lab));
+            }
+        }
+    }
+
+    // The verdict line, and for a legal answer the lines of the LABs.
+    fn listing(&mut self, settings: &[u8], exercise: &[u8], answer: &[u8])
+        requires { Fits self.old.at MOST }
+        ensures { Writes self.old (listing settings.now exercise.now answer.now) MOST self.new }
+    {
+        let mut route = [NO_ENTRY; judge::ROUTE_SIZE];
+        let mut tries = [0u32; judge::TRIES_SIZE];
+        let verdict = judge::judge_sheets(settings, exercise, answer, &mut route, &mut tries);
+        self.verdict_line(verdict);
+        if verdict.number == 0 {
+            let marks = marks_of(answer, exercise::cell_count(exercise));
+            self.lab_lines(&marks, &route);
+        }
+    }
 }
 
-// Writes a number in decimal.
-fn write_decimal(out: &mut [u8], at: usize, n: u32) -> usize
-    requires { Fits at 10 }
-    ensures { Writes out.old at (decimal n) 10 out.new result }
-{
-    if n < 10 {
-        return store(out, at, b'0' + n as u8);
-    }
-    let next = write_decimal(out, at, n / 10);
-    store(out, next, b'0' + (n % 10) as u8)
-}
-
-// Writes a number, or a dash for the one that says there is none.
+// A cell or a LAB, or None where there is none.
 #[tactic(auto, unfolding(crate::specs::Listing::or_dash))]
-fn write_or_dash(out: &mut [u8], at: usize, none: u32, n: u32) -> usize
-    requires { Fits at 10 }
-    ensures { Writes out.old at (or_dash none n) 10 out.new result }
+fn place(n: u16) -> Option<u32>
+    ensures { number_or_dash result ≡ place n }
 {
-    if n == none {
-        return store(out, at, b'-');
-    }
-    write_decimal(out, at, n)
+    (n != NONE).then_some(u32::from(n))
 }
 
-// A word and a number.
-fn numbered(out: &mut [u8], at: usize, word: &[u8], n: u32) -> usize
-    requires { Fits at (length word.now + 10) }
-    ensures { Writes out.old at (word.now ++ decimal n) (length word.now + 10) out.new result }
+// A route byte, or None where there is no need.
+#[tactic(auto, unfolding(crate::specs::Listing::or_dash))]
+fn entry(n: u8) -> Option<u32>
+    ensures { number_or_dash result ≡ entry n }
 {
-    let next = write_word(out, at, word);
-    write_decimal(out, next, n)
-}
-
-// A word and a cell or a LAB.
-fn placed(out: &mut [u8], at: usize, word: &[u8], n: u16) -> usize
-    requires { Fits at (length word.now + 10) }
-    ensures { Writes out.old at (word.now ++ place n) (length word.now + 10) out.new result }
-{
-    let next = write_word(out, at, word);
-    write_or_dash(out, next, NONE as u32, n as u32)
-}
-
-// A word and a route byte.
-fn entered(out: &mut [u8], at: usize, word: &[u8], byte: u8) -> usize
-    requires { Fits at (length word.now + 10) }
-    ensures { Writes out.old at (word.now ++ entry byte) (length word.now + 10) out.new result }
-{
-    let next = write_word(out, at, word);
-    write_or_dash(out, next, NO_ENTRY as u32, byte as u32)
-}
-
-// A word and two route bytes.
-fn paired(out: &mut [u8], at: usize, word: &[u8], first: u8, second: u8) -> usize
-    requires { Fits at (length word.now + 10 + 1 + 10) }
-    ensures { Writes out.old at (word.now ++ entry first ++ ascii " " ++ entry second) (length word.now + 10 + 1 + 10) out.new result }
-{
-    let next = entered(out, at, word, first);
-    let past = store(out, next, b' ');
-    write_or_dash(out, past, NO_ENTRY as u32, second as u32)
-}
-
-// The line of a verdict.
-fn verdict_line(out: &mut [u8], at: usize, v: Verdict) -> usize
-    requires { Fits at 72 }
-    ensures { Writes out.old at (verdict_line v) 72 out.new result }
-{
-    let a = numbered(out, at, b"verdict ", v.number as u32);
-    let b = placed(out, a, b" cell ", v.cell);
-    let c = placed(out, b, b" lab ", v.lab);
-    let d = numbered(out, c, b" apprentice ", v.apprentice);
-    store(out, d, b'\n')
-}
-
-// The line of a LAB with these route bytes.
-fn lab_line(out: &mut [u8], at: usize, lab: u16, bytes: [u8; 8]) -> usize
-    requires { Fits at 127 }
-    ensures { Writes out.old at (lab_line lab bytes) 127 out.new result }
-{
-    let a = numbered(out, at, b"lab ", lab as u32);
-    let b = paired(out, a, b" clk ", bytes[0], bytes[1]);
-    let c = paired(out, b, b" ena ", bytes[2], bytes[3]);
-    let d = paired(out, c, b" aclr ", bytes[4], bytes[5]);
-    let e = entered(out, d, b" sclr ", bytes[6]);
-    let f = entered(out, e, b" sload ", bytes[7]);
-    store(out, f, b'\n')
+    (n != NO_ENTRY).then_some(u32::from(n))
 }
 
 // The eight bytes of a LAB in the route buffer.
@@ -135,72 +147,32 @@ fn lab_line(out: &mut [u8], at: usize, lab: u16, bytes: [u8; 8]) -> usize
 fn row(route: &[u8], lab: u16) -> [u8; 8]
     ensures { result ≡ row_at route.now lab }
 {
-    let at = 8 * (lab as usize);
-    [
-        sheet::byte_at(route, at),
-        sheet::byte_at(route, at + 1),
-        sheet::byte_at(route, at + 2),
-        sheet::byte_at(route, at + 3),
-        sheet::byte_at(route, at + 4),
-        sheet::byte_at(route, at + 5),
-        sheet::byte_at(route, at + 6),
-        sheet::byte_at(route, at + 7),
-    ]
+    std::array::from_fn(|j| sheet::byte_at(route, 8 * usize::from(lab) + j))
 }
 
-// The line of a LAB, where it is marked.
-fn line_at(out: &mut [u8], at: usize, marks: &[u8], route: &[u8], lab: u16) -> usize
-    requires { Fits at 127 }
-    ensures { Writes out.old at (line_at marks.now route.now lab) 127 out.new result }
+// A mark for each LAB that one of the cells stands in.
+#[tactic(auto, unfolding(crate::specs::passes::Marks::marks_of))]
+fn marks_of(answer: &[u8], cells: u16) -> [bool; 1024]
+    ensures { result ≡ marks_of answer.now cells }
 {
-    if sheet::byte_at(marks, lab as usize) == 1 {
-        return lab_line(out, at, lab, row(route, lab));
+    let mut marks = [false; 1024];
+    for i in 0..cells {
+        let lab = usize::from(placing::lab_of(answer, CellNumber(i)));
+        sheet::put(&mut marks, lab, true);
     }
-    at
+    marks
 }
 
-// The lines of the marked LABs, rising.
-fn lab_lines(out: &mut [u8], at: usize, marks: &[u8], route: &[u8]) -> usize
-    requires { Fits at 130048 }
-    ensures { Writes out.old at (lines_from marks.now route.now 0 1024) 130048 out.new result }
-{
-    let mut next = at;
-    let mut lab: u16 = 0;
-    while lab < lab_pass::LABS {
-        next = line_at(out, next, marks, route, lab);
-        lab += 1;
-    }
-    next
-}
-
-// Marks the LAB of each cell.
-fn mark_labs(answer: &[u8], cells: u16, marks: &mut [u8])
-    ensures { marks.new ≡ marked_from answer.now marks.old 0 cells }
-{
-    let mut i: u16 = 0;
-    while i < cells {
-        store(marks, placing::lab_of(answer, CellNumber(i)) as usize, 1);
-        i += 1;
-    }
-}
-
-// Writes the listing of an exercise and an answer on the board of a settings sheet into a buffer and answers its length. What the buffer has no
+// Writes the listing of an exercise and an answer on the board of a settings sheet into a buffer and returns its length. What the buffer has no
 // room for is dropped.
 pub fn listing(settings: &[u8], exercise: &[u8], answer: &[u8], out: &mut [u8]) -> usize
     ensures written { out.new ≡ overwrite out.old 0 (listing settings.now exercise.now answer.now) }
     ensures counted { result ≡ length (listing settings.now exercise.now answer.now) }
     ensures short { result ≤ MOST }
 {
-    let mut route = [NO_ENTRY; judge::ROUTE_SIZE];
-    let mut tries = [0u32; judge::TRIES_SIZE];
-    let verdict = judge::judge_sheets(settings, exercise, answer, &mut route, &mut tries);
-    let next = verdict_line(out, 0, verdict);
-    if verdict.number != 0 {
-        return next;
-    }
-    let mut marks = [0u8; 1024];
-    mark_labs(answer, exercise::cell_count(exercise), &mut marks);
-    lab_lines(out, next, &marks, &route)
+    let mut page = Page { out, at: 0 };
+    page.listing(settings, exercise, answer);
+    page.at
 }
 
 // The listing on the board of document 01.

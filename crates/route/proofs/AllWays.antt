@@ -18,7 +18,7 @@ use Rattle.entries.specs.Table.{Table, ENTRIES, serves, no_row, eight_rows, need
 use Rattle.route.specs.Way.{Way, Earlier, fits, fits_all, is_way, entry_lists, ways, first_of, earliest_way}
 use Rattle.route.specs.Served.{SameServed}
 use Rattle.route.specs.passes.Search.{attempt, pick, found_way}
-use Rattle.route.proofs.Search.{First, Begun, first_none, first_some, first_found, first_same, pick_first}
+use Rattle.route.proofs.FirstGiven.{First, Begun, first_none, first_some, first_found, first_same, pick_first}
 use Rattle.route.proofs.Ways.{OneNet, served_low, way_nil, way_cons, way_serves, way_shares, way_rest, first_way}
 
 -- ---- of all lists of entries, the first that passes a test

@@ -1,4 +1,4 @@
-pub mod Search
+pub mod FirstGiven
 pub mod Ways
 pub mod AllWays
 mod OwnWays
@@ -6,12 +6,10 @@ pub mod Tries
 pub mod Limit
 mod TriedWays
 pub mod EightBytes
-mod Numbers
 mod Steps
 mod Turns
 mod Idle
 mod Twins
-mod Later
 mod Repeats
 mod Placing
 mod Whole

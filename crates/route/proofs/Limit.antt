@@ -7,8 +7,7 @@ use mathlib.Core.List.{List, [], ◌∷◌}
 use mathlib.Core.Option.{Option, none, some}
 use native.Mathlib.Nat.{suc-mul, mul-le-mul, le_trans}
 use native.Mathlib.Omega.{arith}
-use lib.ListN.{length, take, length-take, length-drop}
-use lib.Seq.{slice}
+use lib.ListN.{length}
 use Rattle.entries.specs.declared.Need.{Need}
 use Rattle.entries.specs.Table.{Table, ENTRIES}
 use Rattle.route.specs.Tries.{tries}
@@ -58,11 +57,9 @@ module _ {S N : Type 0} (ok : S → N → ℕ → Bool) (next : S → N → ℕ 
   pub search_limit : (s : S) (ns : List N) → size ≤ 8 → length ns ≤ 8 → tries_from ok next size s ns ≤ 19173960
   search_limit s ns h l = le_trans (search_most s ns) (rw most_8_8 at (most_up (length ns) 8 size 8 l h))
 
--- what `place` makes for the needs from `at` to n
-pub slice_limit : (t : Table) (held : List ℕ) (needs : List Need) (at n : ℕ) → n ≤ 8
-    → tries_from (may_have t) held_by ENTRIES held (slice at n needs) ≤ 19173960
-slice_limit t held needs at n h =
-    search_limit (may_have t) held_by ENTRIES held (slice at n needs) (omega arith) (omega (arith, length-drop at (take n needs), length-take n needs))
+-- what `place` makes for at most eight needs
+pub place_limit : (t : Table) (held : List ℕ) (ns : List Need) → length ns ≤ 8 → tries_from (may_have t) held_by ENTRIES held ns ≤ 19173960
+place_limit t held ns h = search_limit (may_have t) held_by ENTRIES held ns (omega arith) h
 
 -- M-107: AT MOST 19,173,960 TRIES
 pub tries_most : (t : Table) (ns : List Need) → length t ≤ 8 → length ns ≤ 8 → tries t ns ≤ 19173960

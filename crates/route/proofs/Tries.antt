@@ -19,7 +19,7 @@ use Rattle.route.specs.Way.{fits_all, is_way, earliest_way}
 use Rattle.route.specs.Tries.{is_partial_way, at_or_before, counts, short_lists, tried_ways, tries}
 use Rattle.route.specs.passes.Search.{attempt, pick, search_from, spent, tally, tries_from, held_by, found_way, tries_made}
 use Rattle.entries.specs.passes.Entries.{may_have}
-use Rattle.route.proofs.Search.{Given}
+use Rattle.route.proofs.FirstGiven.{Given}
 use Rattle.route.proofs.Ways.{served_low, from_start, to_way, none_held}
 use Rattle.route.specs.Served.{SameServed}
 use Rattle.route.proofs.AllWays.{is_way_lem, way_is, found_earliest, same_earliest}

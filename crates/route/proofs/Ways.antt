@@ -17,7 +17,7 @@ use Rattle.entries.specs.Table.{Table, serves, need_at, need_net}
 use Rattle.route.specs.Way.{Way}
 use Rattle.route.specs.passes.Search.{held_by, found_way}
 use Rattle.entries.specs.passes.Entries.{holder, may_have}
-use Rattle.route.proofs.Search.{First, Given, first_same, search_first}
+use Rattle.route.proofs.FirstGiven.{First, Given, first_same, search_first}
 
 -- ---- one entry
 -- what the table does not hold serves no role

@@ -1,9 +1,9 @@
 -- Document 01, "Route buffer when legal": the eight route bytes of a LAB, from its needs and a way. Assumes nothing.
-use Rattle.std.specs.Prelude.{ℕ, ◌+◌, ◌<◌, ◌≡◌, ◌⊎◌, true, false, cond, List, [], ◌∷◌, eqb, length, get_or, take, replicate}
+use Rattle.std.specs.Prelude.{ℕ, ◌+◌, ◌<◌, ◌≡◌, ◌⊎◌, Bool, true, false, cond, List, [], ◌∷◌, Some, None, eqb, length, get_or, take, replicate}
+use Rattle.std.specs.Prelude as std
 use Rattle.std.proofs.Math.Option.{Option, none, some}
 use Rattle.sheet.specs.Lists.{filterb}
 use Rattle.entries.specs.declared.Need.{Need}
-use Rattle.route.specs.declared.LabRoute.{LabRoute}
 use Rattle.entries.specs.Table.{Table, need_at, CLK, ENA, ACLR, SCLR, SLOAD}
 use Rattle.route.specs.Way.{Way, Earlier}
 
@@ -29,6 +29,16 @@ eight_bytes ns w =
     ∷ byte_for ns w SCLR 0
     ∷ byte_for ns w SLOAD 0
     ∷ []
+
+-- whether a LAB has a way, and its eight route bytes
+pub record LabRoute : Type 0 where
+  pub found : Bool
+  pub bytes : List ℕ
+
+-- the route of a LAB that the search answers: its bytes, or none
+abbrev pub lab_route_from : std.Option (List ℕ) → LabRoute
+lab_route_from None = record { found = false; bytes = replicate 8 255 }
+lab_route_from (Some b) = record { found = true; bytes = b }
 
 -- whether there is a way, and the route bytes that it gives; eight times 255 where there is none
 unfoldable pub lab_route_of : List Need → Option (List ℕ) → LabRoute

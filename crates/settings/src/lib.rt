@@ -1,12 +1,15 @@
 #![tactic(auto)]
 
-ghost use Rattle.std.specs.Prelude.{◌≡◌, ltb};
+ghost use Rattle.std.specs.Prelude.{◌≡◌};
 ghost use Rattle.sheet.specs.Bytes.{byte_at};
-ghost use Rattle.entries.specs.Table.{ENTRIES, eight_rows};
+ghost use Rattle.sheet.specs.Refusals.{told_number};
+ghost use Rattle.entries.specs.Table.{eight_rows};
 ghost use Rattle.settings.specs.Settings.{version, entry_count, board, flags_start, flags, unknown_version, wrong_settings_length, other_flags, settings_number, row_of, table_of, settings_numbers, settings_entries};
 ghost use Rattle.settings.specs.House.{house_settings};
 
 use entries::EntryTable;
+use sheet::Refusal;
+use std::array;
 
 // Where the numbers of the head stand, and its size in each version.
 pub const COUNT_AT: usize = 5;
@@ -46,20 +49,20 @@ fn entry_count(settings: &[u8]) -> u8
 fn board(settings: &[u8]) -> u16
     ensures { result ≡ board settings.now }
 {
-    if version(settings) == 2 {
-        return sheet::u16_at(settings, BOARD_AT);
+    match version(settings) {
+        2 => sheet::u16_at(settings, BOARD_AT),
+        _ => 0,
     }
-    0
 }
 
 // Where the flags begin.
 fn flags_start(settings: &[u8]) -> u8
     ensures { result ≡ flags_start settings.now }
 {
-    if version(settings) == 2 {
-        return BOARD_HEADER;
+    match version(settings) {
+        2 => BOARD_HEADER,
+        _ => HEADER,
     }
-    HEADER
 }
 
 // The bytes of role flags, one an entry.
@@ -68,8 +71,8 @@ fn flags(settings: &[u8]) -> &[u8]
 {
     sheet::part(
         settings,
-        flags_start(settings) as usize,
-        entry_count(settings) as usize,
+        usize::from(flags_start(settings)),
+        usize::from(entry_count(settings)),
     )
 }
 
@@ -77,28 +80,14 @@ fn flags(settings: &[u8]) -> &[u8]
 pub fn is_unknown_version(version: u16) -> bool
     ensures { result ≡ unknown_version version }
 {
-    let first = version == 1;
-    let second = version == 2;
-    !(first | second)
-}
-
-fn wrong_settings_version(settings: &[u8]) -> bool
-    ensures { result ≡ unknown_version (version settings.now) }
-{
-    is_unknown_version(version(settings))
-}
-
-fn too_many_entries(settings: &[u8]) -> bool
-    ensures { result ≡ ltb ENTRIES (entry_count settings.now) }
-{
-    MAX_ENTRIES < entry_count(settings)
+    !matches!(version, 1 | 2)
 }
 
 #[tactic(auto, unfolding(crate::specs::Settings::wrong_settings_length))]
 fn wrong_settings_length(settings: &[u8]) -> bool
     ensures { result ≡ wrong_settings_length settings.now }
 {
-    settings.len() != flags_start(settings) as usize + entry_count(settings) as usize
+    settings.len() != usize::from(flags_start(settings)) + usize::from(entry_count(settings))
 }
 
 // Whether some byte has a flag above the five roles.
@@ -106,83 +95,52 @@ fn wrong_settings_length(settings: &[u8]) -> bool
 pub fn has_other_flags(flags: &[u8]) -> bool
     ensures { result ≡ other_flags flags.now }
 {
-    let mut i = 0;
-    while i < flags.len() {
-        if ALL_ROLES < flags[i] {
-            return true;
-        }
-        i += 1;
-    }
-    false
+    flags.iter().any(|&f| ALL_ROLES < f)
 }
 
-fn unknown_role(settings: &[u8]) -> bool
-    ensures { result ≡ other_flags (flags settings.now) }
-{
-    has_other_flags(flags(settings))
-}
-
-// The number of 70 to 75 that applies to a settings sheet, or 0.
+// 70 to 75 of a settings sheet.
 #[tactic(auto, unfolding(crate::specs::Settings::settings_number))]
-pub fn settings_number(settings: &[u8]) -> u8
-    ensures { result ≡ settings_number settings.now }
+pub fn check_settings(settings: &[u8]) -> Result<(), Refusal>
+    ensures { told_number result ≡ settings_number settings.now }
 {
-    if settings.len() < HEADER as usize {
-        return 70;
+    if settings.len() < usize::from(HEADER) {
+        return Err(Refusal::SettingsShort);
     }
     if sheet::wrong_mark(settings, b'T') {
-        return 71;
+        return Err(Refusal::SettingsMark);
     }
-    if wrong_settings_version(settings) {
-        return 72;
+    if is_unknown_version(version(settings)) {
+        return Err(Refusal::SettingsVersion);
     }
-    if too_many_entries(settings) {
-        return 73;
+    if MAX_ENTRIES < entry_count(settings) {
+        return Err(Refusal::TooManyEntries);
     }
     if wrong_settings_length(settings) {
-        return 74;
+        return Err(Refusal::SettingsLength);
     }
-    if unknown_role(settings) {
-        return 75;
+    if has_other_flags(flags(settings)) {
+        return Err(Refusal::OtherFlags);
     }
-    0
+    Ok(())
 }
 
 // What an entry with these flags serves: clk, ena, aclr, sclr, sload.
 fn row(flags: u8) -> [bool; 5]
     ensures { result ≡ row_of flags }
 {
-    [
-        flags % 2 == 1,
-        flags / 2 % 2 == 1,
-        flags / 4 % 2 == 1,
-        flags / 8 % 2 == 1,
-        flags / 16 % 2 == 1,
-    ]
+    array::from_fn(|role| (flags >> role) % 2 == 1)
 }
 
-// The row of an entry; one past the last entry serves nothing.
-fn row_at(flags: &[u8], e: usize) -> [bool; 5]
-    ensures { result ≡ row_of (byte_at flags.now e) }
-{
-    row(sheet::byte_at(flags, e))
-}
-
-// The table on a settings sheet, as the search takes it.
+// The table on a settings sheet, as the search takes it: a row past the last entry serves nothing.
 pub fn entry_table(settings: &[u8]) -> EntryTable
     ensures { result ≡ eight_rows (table_of settings.now) }
 {
     let flags = flags(settings);
-    [
-        row_at(flags, 0),
-        row_at(flags, 1),
-        row_at(flags, 2),
-        row_at(flags, 3),
-        row_at(flags, 4),
-        row_at(flags, 5),
-        row_at(flags, 6),
-        row_at(flags, 7),
-    ]
+    array::from_fn(
+        |e| -> [bool; 5]
+            ensures { result ≡ row_of (byte_at flags.entry.now e) }
+        { row(sheet::byte_at(flags, e)) },
+    )
 }
 
 // Version, board number and entry count of a settings sheet; zeros where it is refused.
@@ -190,11 +148,14 @@ pub fn entry_table(settings: &[u8]) -> EntryTable
 pub fn settings_numbers(settings: &[u8]) -> [u16; 3]
     ensures { result ≡ settings_numbers settings.now }
 {
-    if settings_number(settings) != 0 {
-        return [0u16; 3];
+    match check_settings(settings) {
+        Ok(()) => [
+            version(settings),
+            board(settings),
+            u16::from(entry_count(settings)),
+        ],
+        Err(_) => [0; 3],
     }
-    let entries = entry_count(settings) as u16;
-    [version(settings), board(settings), entries]
 }
 
 // The flags of each entry, and 0 past the last; zeros where the sheet is refused.
@@ -202,18 +163,11 @@ pub fn settings_numbers(settings: &[u8]) -> [u16; 3]
 pub fn settings_entries(settings: &[u8]) -> [u8; 8]
     ensures { result ≡ settings_entries settings.now }
 {
-    if settings_number(settings) != 0 {
-        return [0u8; 8];
+    match check_settings(settings) {
+        Ok(()) => {
+            let flags = flags(settings);
+            array::from_fn(|e| sheet::byte_at(flags, e))
+        }
+        Err(_) => [0; 8],
     }
-    let flags = flags(settings);
-    [
-        sheet::byte_at(flags, 0),
-        sheet::byte_at(flags, 1),
-        sheet::byte_at(flags, 2),
-        sheet::byte_at(flags, 3),
-        sheet::byte_at(flags, 4),
-        sheet::byte_at(flags, 5),
-        sheet::byte_at(flags, 6),
-        sheet::byte_at(flags, 7),
-    ]
 }

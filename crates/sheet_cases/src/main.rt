@@ -1,7 +1,6 @@
 // Runs what no caller from C reaches: the inverse of signals, and decoders on parts of another size. A line a case.
 #![tactic(auto)]
 
-use answer::Placed;
 use exercise::Record;
 use sheet::Signal;
 use std::io;
@@ -19,25 +18,27 @@ fn size_case(rt: &impl Print, size: usize) -> io::Result<()> {
     let Record::Malformed = exercise::decode_record(part, 4) else {
         return println!(rt; "part of {size} is a record");
     };
-    let Placed::OutOfRange = answer::decode_place(part) else {
+    if answer::decode_place(part).is_some() {
         return println!(rt; "part of {size} is a place");
-    };
+    }
     println!(rt; "part of {size} is neither")
 }
 
 fn main(rt: HostRuntime) -> io::Result<()> {
-    inverse_case(&rt, Signal::UNCONNECTED.0)?;
-    inverse_case(&rt, Signal::GND.0)?;
-    inverse_case(&rt, Signal::VCC.0)?;
-    inverse_case(&rt, 3)?;
-    inverse_case(&rt, 4)?;
-    inverse_case(&rt, 5)?;
-    inverse_case(&rt, 65534)?;
-    inverse_case(&rt, 65535)?;
-    size_case(&rt, 3)?;
-    size_case(&rt, 4)?;
-    size_case(&rt, 5)?;
-    size_case(&rt, 23)?;
-    size_case(&rt, 24)?;
-    size_case(&rt, 25)
+    for code in [
+        Signal::UNCONNECTED.0,
+        Signal::GND.0,
+        Signal::VCC.0,
+        3,
+        4,
+        5,
+        65534,
+        65535,
+    ] {
+        inverse_case(&rt, code)?;
+    }
+    for size in [3, 4, 5, 23, 24, 25] {
+        size_case(&rt, size)?;
+    }
+    Ok(())
 }

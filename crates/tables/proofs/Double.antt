@@ -2,7 +2,7 @@
 -- first cell that drives a net twice. Assumes nothing.
 use Prim.Native.Nat.{ℕ, zero, suc, ◌+◌, ◌*◌, ◌≤◌, ◌<◌}
 use mathlib.Core.Path.{◌≡◌, refl, sym, ap, ◌∙◌}
-use mathlib.Core.Bool.{Bool, true, false, cond, not, ◌||◌, or_assoc, or_comm, or-false}
+use mathlib.Core.Bool.{Bool, true, false, cond, ◌||◌, or_assoc, or_comm, or-false}
 use mathlib.Core.List.{List, [], ◌∷◌}
 use native.Mathlib.Omega.{arith}
 use lib.ListN.{length, get_or, replicate, length-replicate}
@@ -16,7 +16,7 @@ use Rattle.exercise.specs.Record.{record_at, outputs}
 use Rattle.sheet.proofs.Laws.{by_test}
 use Rattle.sheet.proofs.Signals.{upright_even}
 use Rattle.tables.specs.Records.{cell, driven, driven_twice, driven_below, double_driver}
-use Rattle.tables.specs.passes.Tables.{is_marked, with_mark, marked_twice, mark_each, double_from}
+use Rattle.tables.specs.passes.Tables.{is_marked, with_mark, marked_twice, mark_each, double_from, double_number}
 use Rattle.sheet.proofs.Lists.{elem_first, elem_rest, any_append, concat-suc, get_or-all}
 use Rattle.tables.proofs.Stores.{placed_length}
 use Rattle.tables.proofs.Decoded.{outputs_good, good_output}
@@ -25,8 +25,8 @@ use Rattle.tables.proofs.Decoded.{outputs_good, good_output}
 abbrev pub code_of : ℕ → ℕ
 code_of k = 4 + 2 * k
 
-abbrev marked : List ℕ → ℕ → Bool
-marked t k = not (eqb (get_or t k 0) 0)
+abbrev marked : List Bool → ℕ → Bool
+marked t k = get_or t k false
 
 pub code_net : (s : ℕ) → is_net s ≡ true → is_inverted s ≡ false → code_of (net_of s) ≡ s
 code_net s n i = let a = leb-true 4 s n in let x = upright_even s n i in omega arith
@@ -39,33 +39,33 @@ abbrev Good : ℕ → List ℕ → Type 0
 Good nets os = (s : ℕ) → elemb s os ≡ true → is_bad_output nets s ≡ false
 
 -- ---- one output
-mark_length : (t : List ℕ) (o : ℕ) → length (with_mark t o) ≡ length t
+mark_length : (t : List Bool) (o : ℕ) → length (with_mark t o) ≡ length t
 unfolding with_mark
-mark_length t o = placed_length t o 1
+mark_length t o = placed_length t o true
 
 -- the marked nets are those driven before
-abbrev Marks : List ℕ → List ℕ → Type 0
+abbrev Marks : List Bool → List ℕ → Type 0
 Marks t before = (k : ℕ) → marked t k ≡ elemb (code_of k) before
 
 module _ (nets : ℕ) where
-  mark_at : (t : List ℕ) (o k : ℕ) → nets ≤ length t → is_bad_output nets o ≡ false → marked (with_mark t o) k ≡ eqb (code_of k) o || marked t k
+  mark_at : (t : List Bool) (o k : ℕ) → nets ≤ length t → is_bad_output nets o ≡ false → marked (with_mark t o) k ≡ eqb (code_of k) o || marked t k
   unfolding with_mark
   mark_at t o k fits g =
       by_test (connected o)
       (λ c. let h = good_output nets o g c in
       let b : net_of o < length t = omega (arith, h.2) in
       rw h.0 (by_test (eqb (code_of k) o)
-      (λ e. let q : k ≡ net_of o = omega (arith, eqb-true (code_of k) o e) in rw (e, q, get_or-set_same t (net_of o) 1 0 b))
-      (λ e. rw (e, get_or-set_other t (net_of o) k 1 0 (λ q. eqb-false (code_of k) o e (ap code_of q ∙ code_net o h.0 h.1))))))
+      (λ e. let q : k ≡ net_of o = omega (arith, eqb-true (code_of k) o e) in rw (e, q, get_or-set_same t (net_of o) true false b))
+      (λ e. rw (e, get_or-set_other t (net_of o) k true false (λ q. eqb-false (code_of k) o e (ap code_of q ∙ code_net o h.0 h.1))))))
       (λ c. rw (unconnected o c, ne_eqb (code_of k) 0 (λ q. omega arith)))
 
   -- ---- the outputs of a cell
-  each_length : (t os : List ℕ) → length (mark_each t os) ≡ length t
+  each_length : (t : List Bool) (os : List ℕ) → length (mark_each t os) ≡ length t
   unfolding mark_each
   each_length t [] = refl
   each_length t (o ∷ os) = each_length (with_mark t o) os ∙ mark_length t o
 
-  each_at : (t os : List ℕ) (k : ℕ) → nets ≤ length t → Good nets os → marked (mark_each t os) k ≡ marked t k || elemb (code_of k) (filterb connected os)
+  each_at : (t : List Bool) (os : List ℕ) (k : ℕ) → nets ≤ length t → Good nets os → marked (mark_each t os) k ≡ marked t k || elemb (code_of k) (filterb connected os)
   unfolding mark_each with_mark
   each_at t [] k fits g = sym (or-false (marked t k))
   each_at t (o ∷ os) k fits g =
@@ -75,7 +75,7 @@ module _ (nets : ℕ) where
       (or_assoc (marked t k) (eqb (code_of k) o) (elemb (code_of k) (filterb connected os))))
       (λ c. rw (unconnected o c))
 
-  marked_is : (t before os : List ℕ) → nets ≤ length t → Good nets os → Marks t before → marked_twice t os ≡ driven_twice before (filterb connected os)
+  marked_is : (t : List Bool) (before os : List ℕ) → nets ≤ length t → Good nets os → Marks t before → marked_twice t os ≡ driven_twice before (filterb connected os)
   unfolding marked_twice is_marked with_mark
   marked_is t before [] fits g m = refl
   marked_is t before (o ∷ os) fits g m =
@@ -88,7 +88,7 @@ module _ (nets : ℕ) where
       (λ c. rw (unconnected o c) (marked_is t before os fits rest m))
 
 -- ---- the cells
-double_from_lem : (e t : List ℕ) (i k : ℕ) → net_count e ≤ length t → Marks t (driven_below e i)
+double_from_lem : (e : List ℕ) (t : List Bool) (i k : ℕ) → net_count e ≤ length t → Marks t (driven_below e i)
     → double_from (cell e) t i k ≡ first_from (double_driver e) i k
 unfolding double_from first_from double_driver driven cell record_at
 double_from_lem e t i zero fits m = refl
@@ -102,9 +102,9 @@ double_from_lem e t i (suc k) fits m =
     rw (marked_is nets t (driven_below e i) os fits good m)
     (ap (cond (double_driver e i) i) (double_from_lem e (mark_each t os) (suc i) k (rw (each_length nets t os) fits) later))
 
-double_for : (m : ℕ) (e : List ℕ) (n : ℕ) → net_count e ≤ m → double_from (cell e) (replicate m 0) 0 n ≡ first_from (double_driver e) 0 n
-double_for m e n fits = double_from_lem e (replicate m 0) 0 n (rw (length-replicate {A = ℕ} m 0) fits) (λ k. rw (get_or-all {A = ℕ} m k 0))
+double_for : (m : ℕ) (e : List ℕ) (n : ℕ) → net_count e ≤ m → double_from (cell e) (replicate m false) 0 n ≡ first_from (double_driver e) 0 n
+double_for m e n fits = double_from_lem e (replicate m false) 0 n (rw (length-replicate {A = Bool} m false) fits) (λ k. rw (get_or-all {A = Bool} m k false))
 
 -- 16
-pub double_is : (e : List ℕ) (n : ℕ) → net_count e ≤ 1024 → double_from (cell e) (replicate 1024 0) 0 n ≡ first_from (double_driver e) 0 n
+pub double_is : (e : List ℕ) (n : ℕ) → net_count e ≤ 1024 → double_number (cell e) n ≡ first_from (double_driver e) 0 n
 double_is e n fits = double_for 1024 e n fits

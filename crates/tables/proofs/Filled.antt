@@ -1,13 +1,13 @@
 -- What the filled tables by net hold: for each net the last cell that reads it at cin, the last whose cout drives it, and whether it is read
 -- never, once or more often. Where 16 holds, one cell at the most drives a net. Assumes nothing.
-use Prim.Native.Nat.{ℕ, zero, suc, ◌+◌, ◌≤◌, ◌<◌, min}
+use Prim.Native.Nat.{ℕ, zero, suc, ◌+◌, ◌≤◌, ◌<◌}
 use mathlib.Core.Path.{◌≡◌, refl, sym, ap, ◌∙◌}
 use mathlib.Core.Bool.{Bool, true, false, cond, true≢false, or-true}
 use mathlib.Core.List.{List, [], ◌∷◌}
 use native.Mathlib.Omega.{arith}
 use lib.ListN.{length, get_or, replicate, length-replicate, length-append}
 use lib.Dec.{eqb}
-use borrow.Author.Tests.{eq-eqb, ne_eqb, eqb-true, eqb-false, leb-true}
+use borrow.Author.Tests.{eq-eqb, ne_eqb, eqb-true, leb-true}
 use Rattle.sheet.specs.Lists.{filterb, elemb, below, concat_map, anyb}
 use Rattle.sheet.specs.Checks.{NONE}
 use Rattle.sheet.specs.Signal.{connected, is_net, net_of, is_inverted}
@@ -18,9 +18,11 @@ use Rattle.exercise.specs.declared.Record.TheVariants.{Combinational, Register, 
 use Rattle.sheet.proofs.Laws.{by_test, or_parts, and_parts}
 use Rattle.sheet.proofs.Lists.{elem_first, elem_rest, any_append, filter-append, filter_in, filter_some, concat-suc, get_or-all}
 use Rattle.tables.specs.Records.{cell, driven, driven_twice, driven_below, double_driver, is_of, all_inputs}
-use Rattle.tables.specs.passes.Tables.{read_once, read_each, with_reader, with_driver, reads_below, readers_below, drivers_below}
+use Rattle.tables.specs.declared.Reads.{Reads}
+use Rattle.tables.specs.declared.Reads.TheVariants.{Never, Once, More}
+use Rattle.tables.specs.passes.Tables.{one_more, is_once, read_once, read_each, with_reader, with_driver, reads_below, readers_below, drivers_below}
 use Rattle.tables.proofs.Decoded.{inputs_good, outputs_good, good_net, good_output}
-use Rattle.tables.proofs.Stores.{last_below, Once, placed_length, placed_at, placed, table_at}
+use Rattle.tables.proofs.Stores.{last_below, AtMostOnce, placed_length, placed_at, placed, table_at}
 use Rattle.tables.proofs.Double.{code_of, code_net}
 
 -- ---- the two ports of the carry
@@ -103,7 +105,7 @@ any-concat q f z h (x ∷ l) a =
     ∙ by_test (q x) (λ t. rw (h x t)) (λ t. rw (any-concat q f z h l (rw t at a), or-true (elemb z (f x))))
 
 module _ (e : List ℕ) (n : ℕ) (single : (i : ℕ) → i < n → double_driver e i ≡ false) where
-  pub driven_once : (k : ℕ) → Once (λ j. is_of k (cout_of (cell e j))) n
+  pub driven_once : (k : ℕ) → AtMostOnce (λ j. is_of k (cout_of (cell e j))) n
   unfolding double_driver
   driven_once k j l t =
       by_test (anyb (λ i. is_of k (cout_of (cell e i))) (below j))
@@ -125,8 +127,8 @@ drivers e m n = drivers_below (cell e) (replicate m NONE) n
 abbrev pub readers : List ℕ → ℕ → ℕ → List ℕ
 readers e m n = readers_below (cell e) (replicate m NONE) n
 
-abbrev pub reads : List ℕ → ℕ → ℕ → List ℕ
-reads e m n = reads_below (cell e) (replicate m 0) n
+abbrev pub reads : List ℕ → ℕ → ℕ → List Reads
+reads e m n = reads_below (cell e) (replicate m Never) n
 
 module _ (e : List ℕ) (m : ℕ) (fits : net_count e ≤ m) (n : ℕ) where
   pub driver_at : (k : ℕ) → get_or (drivers e m n) k NONE ≡ last_below (λ j. is_of k (cout_of (cell e j))) n
@@ -142,41 +144,53 @@ module _ (e : List ℕ) (m : ℕ) (fits : net_count e ≤ m) (n : ℕ) where
       (readers e m) refl (λ j. with_reader_lem (readers e m j) j (cell e j)) k n
 
 -- ---- how often a net is read
-one_more_lem : (r : ℕ) → cond (eqb (min 2 r) 0) 1 2 ≡ min 2 (suc r)
-one_more_lem r =
-    by_test (eqb (min 2 r) 0) (λ e. let z = eqb-true (min 2 r) 0 e in rw e (omega arith)) (λ e. let z = eqb-false (min 2 r) 0 e in rw e (omega arith))
+-- what r reads are
+abbrev pub reads_of : ℕ → Reads
+reads_of zero = Never
+reads_of (suc zero) = Once
+reads_of (suc (suc r)) = More
+
+one_more_lem : (r : ℕ) → one_more (reads_of r) ≡ reads_of (suc r)
+one_more_lem zero = refl
+one_more_lem (suc zero) = refl
+one_more_lem (suc (suc r)) = refl
+
+pub once_is : (r : ℕ) → is_once (reads_of r) ≡ eqb r 1
+once_is zero = refl
+once_is (suc zero) = refl
+once_is (suc (suc r)) = sym (ne_eqb (suc (suc r)) 1 (λ e. omega arith))
 
 -- the reads of net k among the signals of a list
 abbrev reads_in : ℕ → List ℕ → ℕ
 reads_in k ss = length (filterb (is_of k) ss)
 
-once_length : (t : List ℕ) (s : ℕ) → length (read_once t s) ≡ length t
+once_length : (t : List Reads) (s : ℕ) → length (read_once t s) ≡ length t
 unfolding read_once
-once_length t s = placed_length t s (cond (eqb (get_or t (net_of s) 0) 0) 1 2)
+once_length t s = placed_length t s (one_more (get_or t (net_of s) Never))
 
-each_length : (t ss : List ℕ) → length (read_each t ss) ≡ length t
+each_length : (t : List Reads) (ss : List ℕ) → length (read_each t ss) ≡ length t
 unfolding read_each
 each_length t [] = refl
 each_length t (s ∷ ss) = each_length (read_once t s) ss ∙ once_length t s
 
 module _ (k : ℕ) where
-  once_at : (t : List ℕ) (s : ℕ) → (is_net s ≡ true → net_of s < length t)
-      → get_or (read_once t s) k 0 ≡ cond (is_of k s) (cond (eqb (get_or t k 0) 0) 1 2) (get_or t k 0)
+  once_at : (t : List Reads) (s : ℕ) → (is_net s ≡ true → net_of s < length t)
+      → get_or (read_once t s) k Never ≡ cond (is_of k s) (one_more (get_or t k Never)) (get_or t k Never)
   unfolding read_once
   once_at t s low =
-      placed_at t s (cond (eqb (get_or t (net_of s) 0) 0) 1 2) k 0 low
+      placed_at t s (one_more (get_or t (net_of s) Never)) k Never low
       ∙ by_test (is_of k s) (λ o. rw (o, eqb-true (net_of s) k (and_parts (is_net s) (eqb (net_of s) k) o).1)) (λ o. rw o)
 
-  each_at : (t ss : List ℕ) (r : ℕ) → ((s : ℕ) → elemb s ss ≡ true → is_net s ≡ true → net_of s < length t) → get_or t k 0 ≡ min 2 r
-      → get_or (read_each t ss) k 0 ≡ min 2 (r + reads_in k ss)
+  each_at : (t : List Reads) (ss : List ℕ) (r : ℕ) → ((s : ℕ) → elemb s ss ≡ true → is_net s ≡ true → net_of s < length t) → get_or t k Never ≡ reads_of r
+      → get_or (read_each t ss) k Never ≡ reads_of (r + reads_in k ss)
   unfolding read_each
-  each_at t [] r low h = h ∙ omega arith
+  each_at t [] r low h = h ∙ ap reads_of (omega arith)
   each_at t (s ∷ ss) r low h =
       let first = once_at t s (low s (elem_first s ss)) in
       let rest : (x : ℕ) → elemb x ss ≡ true → is_net x ≡ true → net_of x < length (read_once t s) =
       λ x i n. rw (once_length t s) (low x (elem_rest x s ss i) n) in
       by_test (is_of k s)
-      (λ o. rw o (each_at (read_once t s) ss (suc r) rest (first ∙ rw (o, h) (one_more_lem r)) ∙ omega arith))
+      (λ o. rw o (each_at (read_once t s) ss (suc r) rest (first ∙ rw (o, h) (one_more_lem r)) ∙ ap reads_of (omega arith)))
       (λ o. rw o (each_at (read_once t s) ss r rest (first ∙ rw o h)))
 
 -- the reads of net k by the cells below n
@@ -200,14 +214,14 @@ module _ (e : List ℕ) (k : ℕ) where
 module _ (e : List ℕ) (m : ℕ) (fits : net_count e ≤ m) (k : ℕ) where
   reads_length : (n : ℕ) → length (reads e m n) ≡ m
   unfolding reads_below
-  reads_length zero = length-replicate {A = ℕ} m 0
+  reads_length zero = length-replicate {A = Reads} m Never
   reads_length (suc n) = each_length (reads e m n) (all_inputs (cell e n)) ∙ reads_length n
 
-  pub reads_at : (n : ℕ) → get_or (reads e m n) k 0 ≡ min 2 (reads_to e k n)
+  pub reads_at : (n : ℕ) → get_or (reads e m n) k Never ≡ reads_of (reads_to e k n)
   unfolding reads_below reads_to cell record_at
-  reads_at zero = get_or-all {A = ℕ} m k 0
+  reads_at zero = get_or-all {A = Reads} m k Never
   reads_at (suc n) =
       each_at k (reads e m n) (all_inputs (cell e n)) (reads_to e k n)
       (λ s i h. rw (reads_length n) (omega (arith, good_net (net_count e) s (inputs_good (net_count e) (record_part e n) s i) h)))
       (reads_at n)
-      ∙ ap (min 2) (sym (reads_suc e k n))
+      ∙ ap reads_of (sym (reads_suc e k n))

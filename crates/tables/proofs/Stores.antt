@@ -13,24 +13,31 @@ use Rattle.sheet.specs.Lists.{below, anyb}
 use Rattle.sheet.specs.Signal.{is_net, net_of}
 use Rattle.sheet.proofs.Laws.{by_test}
 use Rattle.tables.specs.Records.{is_of}
+use Rattle.tables.specs.passes.Tables.{cell_for, told_cell, some_cell}
 use Rattle.sheet.specs.Checks.{NONE}
 use Rattle.sheet.proofs.Lists.{any-suc, any_none, get_or-all}
 
 -- ---- one store
--- v at the net of the signal s, where s is a net
-abbrev pub placed : List ℕ → ℕ → ℕ → List ℕ
-placed t s v = cond (is_net s) (set t (net_of s) v) t
+module _ {A : Type 0} where
+  -- v at the net of the signal s, where s is a net
+  abbrev pub placed : List A → ℕ → A → List A
+  placed t s v = cond (is_net s) (set t (net_of s) v) t
 
-pub placed_length : (t : List ℕ) (s v : ℕ) → length (placed t s v) ≡ length t
-placed_length t s v = by_test (is_net s) (λ n. rw (n, length-set)) (λ n. rw n)
+  pub placed_length : (t : List A) (s : ℕ) (v : A) → length (placed t s v) ≡ length t
+  placed_length t s v = by_test (is_net s) (λ n. rw (n, length-set)) (λ n. rw n)
 
-pub placed_at : (t : List ℕ) (s v k d : ℕ) → (is_net s ≡ true → net_of s < length t) → get_or (placed t s v) k d ≡ cond (is_of k s) v (get_or t k d)
-placed_at t s v k d low =
-    by_test (is_net s)
-    (λ n. rw n (by_test (eqb (net_of s) k)
-    (λ e. rw (e, ← eqb-true (net_of s) k e) (get_or-set_same t (net_of s) v d (low n)))
-    (λ e. rw (e, get_or-set_other t (net_of s) k v d (λ q. eqb-false (net_of s) k e (sym q))))))
-    (λ n. rw n)
+  pub placed_at : (t : List A) (s : ℕ) (v : A) (k : ℕ) (d : A) → (is_net s ≡ true → net_of s < length t)
+      → get_or (placed t s v) k d ≡ cond (is_of k s) v (get_or t k d)
+  placed_at t s v k d low =
+      by_test (is_net s)
+      (λ n. rw n (by_test (eqb (net_of s) k)
+      (λ e. rw (e, ← eqb-true (net_of s) k e) (get_or-set_same t (net_of s) v d (low n)))
+      (λ e. rw (e, get_or-set_other t (net_of s) k v d (λ q. eqb-false (net_of s) k e (sym q))))))
+      (λ n. rw n)
+
+-- a test of the cell at the net of a signal
+pub some_told : (p : ℕ → Bool) (t : List ℕ) (s : ℕ) → some_cell p (told_cell t s) ≡ not (eqb (cell_for t s) NONE) && p (cell_for t s)
+some_told p t s = by_test (eqb (cell_for t s) NONE) (λ e. rw e) (λ e. rw e)
 
 -- ---- the last number at which a test holds
 -- the last number below n that passes, or NONE
@@ -39,10 +46,10 @@ last_below q zero = NONE
 last_below q (suc n) = cond (q n) n (last_below q n)
 
 -- no number below n passes after one that does
-abbrev pub Once : (ℕ → Bool) → ℕ → Type 0
-Once q n = (j : ℕ) → j < n → q j ≡ true → anyb q (below j) ≡ false
+abbrev pub AtMostOnce : (ℕ → Bool) → ℕ → Type 0
+AtMostOnce q n = (j : ℕ) → j < n → q j ≡ true → anyb q (below j) ≡ false
 
-pub once_last : (q p : ℕ → Bool) (n : ℕ) → n ≤ NONE → Once q n
+pub once_last : (q p : ℕ → Bool) (n : ℕ) → n ≤ NONE → AtMostOnce q n
     → anyb (λ j. q j && p j) (below n) ≡ not (eqb (last_below q n) NONE) && p (last_below q n)
 unfolding last_below
 once_last q p zero few once = refl
@@ -66,7 +73,7 @@ module _ (q : ℕ → Bool) (count : ℕ → ℕ) (rises : (n : ℕ) → count n
       by_test (q n) (λ t. omega (arith, rw t at (rises n)))
       (λ t. omega (arith, rises n, count_some n (rw (any-suc q n, t, or-false (anyb q (below n))) at h)))
 
-  pub once_count : (n : ℕ) → count n ≤ 1 → Once q n
+  pub once_count : (n : ℕ) → count n ≤ 1 → AtMostOnce q n
   once_count n most j l t =
       by_test (anyb q (below j))
       (λ h. absurd (omega (arith, count_some j h, rw t at (rises j), count_mono (suc j) n l)))

@@ -1,10 +1,12 @@
 -- Request M-105: the refusals, what the call says, and the lent lists at exit. `l` is the log; `rows` and `numbers` are how many rows and entry numbers are lent.
 -- Assumes nothing.
-use Rattle.std.specs.Prelude.{ℕ, Bool, cond, not, ◌||◌, List, [], ◌∷◌, ◌++◌, length, drop, eqb, ltb}
+use Rattle.std.specs.Prelude.{ℕ, Bool, cond, not, ◌||◌, List, [], ◌∷◌, ◌++◌, Result, Ok, Err, length, drop, eqb, ltb}
 use Rattle.sheet.specs.Lists.{anyb, below}
 use Rattle.sheet.specs.Header.{wrong_mark, wrong_version}
 use Rattle.sheet.specs.Checks.{Check, check, first_number}
-use Rattle.tablet_log.specs.declared.Credited.{Credited}
+use Rattle.sheet.specs.declared.refusal.Refusal.{Refusal}
+use Rattle.sheet.specs.Refusals.{number_of}
+use Rattle.tablet_log.specs.declared.Filled.{Filled}
 use Rattle.tablet_log.specs.Log.{entry_count, entry_start, entries, bad_at}
 use Rattle.tablet_log.specs.Minutes.{apprentices, rows_of, listed_of}
 
@@ -55,7 +57,18 @@ module _ {A : Type 0} where
   abbrev pub filled_with : List A → List A → List A
   filled_with xs lent = xs ++ drop (length xs) lent
 
--- what the call says: "the answer says how many are filled"; after a refusal none is
+-- what the call says: 0 and how many rows and entry numbers are filled, or a refusal and twice 0
+pub record Credited : Type 0 where
+  pub number : ℕ
+  pub rows : ℕ
+  pub entries : ℕ
+
+-- the same of a call's result
+abbrev pub credited_from : Result Filled Refusal → Credited
+credited_from (Ok f) = record { number = 0; rows = f.rows; entries = f.entries }
+credited_from (Err r) = record { number = number_of r; rows = 0; entries = 0 }
+
+-- "the answer says how many are filled"; after a refusal none is
 unfoldable pub credited : List ℕ → ℕ → ℕ → Credited
 credited l rows numbers =
     record {

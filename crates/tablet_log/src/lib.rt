@@ -1,10 +1,13 @@
 #![tactic(auto)]
 
-ghost use Rattle.std.specs.Prelude.{◌≡◌, cond, ◌+◌, ◌<◌, length, set};
+ghost use Rattle.std.specs.Prelude.{◌≡◌, length};
 ghost use Rattle.std.proofs.lemmas.List.Edits.{sets};
-ghost use Rattle.tablet_log.specs.Log.{entry_count, entry_at, bad_entry, bad_at};
+ghost use Rattle.sheet.specs.Refusals.{told_number};
+ghost use Rattle.tablet_log.specs.Log.{entry_count, entry_at, bad_entry};
 ghost use Rattle.tablet_log.specs.Minutes.{empty_below, covers_none};
 ghost use Rattle.tablet_log.specs.Credited.{over_limit, wrong_length, any_bad, log_number};
+
+use sheet::Refusal;
 
 // The limits of a log, and how many rows and entry numbers are lent.
 pub const MAX_ENTRIES: u16 = 1024;
@@ -33,7 +36,7 @@ const OPENING_AT: usize = 6;
 const CLOSING_AT: usize = 8;
 
 // What an entry says of whom to credit with what.
-#[derive(Clone, Copy)]
+#[derive(Clone, Copy, PartialEq, Eq)]
 pub struct Entry {
     pub apprentice: u32,
     pub opening: u16,
@@ -43,12 +46,31 @@ pub struct Entry {
 // An apprentice and the minutes.
 pub type Credit = [u32; 2];
 
-// What a call says: 0 and how many rows and entry numbers are filled, or a refusal and twice 0.
-#[derive(Clone, Copy)]
-pub struct Credited {
-    pub number: u8,
+// How many rows and entry numbers are filled.
+#[derive(Clone, Copy, PartialEq, Eq)]
+pub struct Filled {
     pub rows: u16,
     pub entries: u16,
+}
+
+impl Entry {
+    // 85: a minute above 10,080, or apprentice 0.
+    #[tactic(auto, unfolding(crate::specs::Log::bad_entry))]
+    fn is_bad(self) -> bool
+        ensures { result ≡ bad_entry self }
+    {
+        let opening = WEEK < self.opening;
+        let closing = WEEK < self.closing;
+        let nobody = self.apprentice == 0;
+        opening | closing | nobody
+    }
+
+    // Whether it closes at or before its opening.
+    fn covers_none(self) -> bool
+        ensures { result ≡ covers_none self }
+    {
+        self.closing <= self.opening
+    }
 }
 
 // How many entries the head says.
@@ -63,7 +85,7 @@ pub fn entry_count(log: &[u8]) -> u16
 pub fn entry_at(log: &[u8], i: u16) -> Entry
     ensures { result ≡ entry_at log.now i }
 {
-    let start = HEADER + ENTRY_SIZE * (i as usize);
+    let start = HEADER + ENTRY_SIZE * usize::from(i);
     Entry {
         apprentice: sheet::u32_at(log, start + APPRENTICE_AT),
         opening: sheet::u16_at(log, start + OPENING_AT),
@@ -71,39 +93,12 @@ pub fn entry_at(log: &[u8], i: u16) -> Entry
     }
 }
 
-// 85: a minute above 10,080, or apprentice 0.
-#[tactic(auto, unfolding(crate::specs::Log::bad_entry))]
-fn is_bad(entry: Entry) -> bool
-    ensures { result ≡ bad_entry entry }
-{
-    let opening = WEEK < entry.opening;
-    let closing = WEEK < entry.closing;
-    let nobody = entry.apprentice == 0;
-    opening | closing | nobody
-}
-
-// 85, of entry i.
-#[tactic(auto, unfolding(crate::specs::Log::bad_at))]
-fn bad_at(log: &[u8], i: u16) -> bool
-    ensures { result ≡ bad_at log.now i }
-{
-    is_bad(entry_at(log, i))
-}
-
 // 85, of the log.
-#[tactic(auto, unfolding(crate::specs::Credited::any_bad))]
+#[tactic(auto, unfolding(crate::specs::Credited::any_bad, crate::specs::Log::bad_at))]
 fn any_bad(log: &[u8]) -> bool
     ensures { result ≡ any_bad log.now }
 {
-    let count = entry_count(log);
-    let mut i: u16 = 0;
-    while i < count {
-        if bad_at(log, i) {
-            return true;
-        }
-        i += 1;
-    }
-    false
+    (0..entry_count(log)).any(|i| entry_at(log, i).is_bad())
 }
 
 // 83: more than 1,024 entries.
@@ -119,63 +114,33 @@ fn over_limit(log: &[u8]) -> bool
 fn wrong_length(log: &[u8]) -> bool
     ensures { result ≡ wrong_length log.now }
 {
-    log.len() != HEADER + ENTRY_SIZE * (entry_count(log) as usize)
+    log.len() != HEADER + ENTRY_SIZE * usize::from(entry_count(log))
 }
 
-// The number of 80 to 85 that applies, or 0.
+// 80 to 85.
 #[tactic(auto, unfolding(crate::specs::Credited::log_number))]
-pub fn log_number(log: &[u8]) -> u8
-    ensures { result ≡ log_number log.now }
+pub fn check_log(log: &[u8]) -> Result<(), Refusal>
+    ensures { told_number result ≡ log_number log.now }
 {
     if log.len() < HEADER {
-        return 80;
+        return Err(Refusal::LogShort);
     }
     if sheet::wrong_mark(log, b'L') {
-        return 81;
+        return Err(Refusal::LogMark);
     }
     if sheet::wrong_version(log) {
-        return 82;
+        return Err(Refusal::LogVersion);
     }
     if over_limit(log) {
-        return 83;
+        return Err(Refusal::LogOverLimit);
     }
     if wrong_length(log) {
-        return 84;
+        return Err(Refusal::LogLength);
     }
     if any_bad(log) {
-        return 85;
+        return Err(Refusal::BadEntry);
     }
-    0
-}
-
-// Whether entry i closes at or before its opening.
-fn covers_none(log: &[u8], i: u16) -> bool
-    ensures { result ≡ covers_none (entry_at log.now i) }
-{
-    let entry = entry_at(log, i);
-    entry.closing <= entry.opening
-}
-
-// Stores an entry's number, where there is a place.
-fn put_number(numbers: &mut [u16], i: usize, x: u16)
-    ensures { numbers.new ≡ set numbers.old i x }
-{
-    if i < numbers.len() {
-        numbers[i] = x;
-    }
-}
-
-// Lists entry i where it covers nothing; how many are listed then.
-fn list_one(log: &[u8], i: u16, numbers: &mut [u16], n: u16) -> u16
-    requires { n < 65535 }
-    ensures filled { result ≡ cond (covers_none (entry_at log.now i)) (n + 1) n }
-    ensures written { numbers.new ≡ cond (covers_none (entry_at log.now i)) (set numbers.old n i) numbers.old }
-{
-    if covers_none(log, i) {
-        put_number(numbers, n as usize, i);
-        return n + 1;
-    }
-    n
+    Ok(())
 }
 
 // Lists the first entries that cover nothing; how many they are.
@@ -184,10 +149,11 @@ pub fn list_empty(log: &[u8], count: u16, numbers: &mut [u16]) -> u16
     ensures written { numbers.new ≡ sets numbers.old 0 (empty_below log.now count) }
 {
     let mut n: u16 = 0;
-    let mut i: u16 = 0;
-    while i < count {
-        n = list_one(log, i, numbers, n);
-        i += 1;
+    for i in 0..count {
+        if entry_at(log, i).covers_none() {
+            sheet::put(numbers, usize::from(n), i);
+            n += 1;
+        }
     }
     n
 }

@@ -3,13 +3,10 @@ use Prim.Native.Nat.{ℕ, suc, ◌+◌, ◌-◌, ◌≤◌, ◌<◌}
 use native.Mathlib.Numerals.{add-one}
 use native.Mathlib.Omega.{arith}
 use mathlib.Core.Path.{◌≡◌, sym, ap, ◌∙◌}
-use mathlib.Core.Bool.{Bool, true, false}
 use mathlib.Core.List.{List}
-use lib.ListN.{length, get_or}
 use lib.Dec.{eqb}
 use borrow.Author.Tests.{eq-eqb, ne_eqb}
-use Rattle.sheet.proofs.Scan.{Unmet, unmet_starts, unmet_goes, unmet_stops, unmet_ends}
-use Rattle.sheet.specs.Lists.{filterb, elemb, from}
+use Rattle.sheet.specs.Lists.{filterb, from}
 use Rattle.sheet.specs.Checks.{NONE}
 use Rattle.answer.specs.Answer.{place_start}
 use Rattle.placing.specs.Places.{lab_at}
@@ -18,7 +15,7 @@ use Rattle.verdict.specs.declared.Fault.{Fault}
 use Rattle.verdict.specs.declared.Finding.{Finding}
 use Rattle.verdict.specs.declared.Part.{Part}
 use Rattle.verdict.specs.Numbers.{fault_of}
-use Rattle.verdict.specs.Verdicts.{of_answer, first_or, lowest_in, culprit_at, culprit_of}
+use Rattle.verdict.specs.Verdicts.{of_exercise, of_answer, first_or, lowest_in, culprit_at, culprit_of}
 
 -- ---- the lowest cell of a LAB: none of the cells below i stands there
 pub record Lowest (a : List ℕ) (n l i : ℕ) : Type 0 where
@@ -49,25 +46,12 @@ module _ (a : List ℕ) (n l i : ℕ) (s : Lowest a n l i) where
 
 pub ruleset lowest_steps = (lowest_starts, lowest_goes, lowest_stops, lowest_ends)
 
--- ---- a number in a list: none of those before i is it
-pub among_starts : (n : ℕ) (l : List ℕ) → Unmet (eqb n) l 0
-among_starts n l = unmet_starts (eqb n) l
-
-module _ (n : ℕ) (l : List ℕ) (i : ℕ) (s : Unmet (eqb n) l i) where
-  pub among_goes : i < length l → (get_or l i 0 ≡ n → ⊥) → Unmet (eqb n) l (i + 1)
-  among_goes h d = unmet_goes (eqb n) l i s 0 h (ne_eqb n (get_or l i 0) (λ q. d (sym q)))
-
-  pub among_stops : i < length l → get_or l i 0 ≡ n → true ≡ elemb n l
-  among_stops h e = unmet_stops (eqb n) l i s 0 h (eq-eqb n (get_or l i 0) (sym e))
-
-  pub among_ends : length l ≤ i → false ≡ elemb n l
-  among_ends h = unmet_ends (eqb n) l i s h
-
-pub ruleset among_steps = (among_starts, among_goes, among_stops, among_ends)
-
 -- ---- the culprit
-pub from_start : (b : Bool) (x y : ℕ) → x ≡ y → ◌≡◌ {A = Part} (record { of_answer = b; start = 0; size = x }) (record { of_answer = b; start = 0; size = y })
-from_start b x y h = rw h
+pub exercise_start : (x y : ℕ) {r : Part} → r ≡ of_exercise 0 x → x ≡ y → r ≡ of_exercise 0 y
+exercise_start x y h q = rw (← q) h
+
+pub answer_start : (x y : ℕ) {r : Part} → r ≡ of_answer 0 x → x ≡ y → r ≡ of_answer 0 y
+answer_start x y h q = rw (← q) h
 
 pub place_lowest : (a : List ℕ) (n c m l : ℕ) {r : Part} → r ≡ of_answer (place_start m) 4 → m ≡ lowest_in a c l → c ≡ n → r ≡ of_answer (place_start (lowest_in a n l)) 4
 place_lowest a n c m l h k q = h ∙ rw (k, q)
@@ -76,4 +60,4 @@ pub culprit_is : (e a : List ℕ) (f : Finding) (k m : Fault) {r : Part} → k �
 unfolding culprit_of
 culprit_is e a f k m h q p = p ∙ ap (culprit_at e a f) (sym q ∙ h)
 
-pub ruleset culprit_steps = (from_start, place_lowest, culprit_is)
+pub ruleset culprit_steps = (exercise_start, answer_start, place_lowest, culprit_is)

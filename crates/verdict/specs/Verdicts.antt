@@ -1,14 +1,17 @@
 -- What a verdict says of what was found, and the part of a sheet that is at fault: document 01, "An answer holds the number, ...". `e` is the exercise, `a` the answer.
 -- Assumes nothing.
-use Rattle.std.specs.Prelude.{ℕ, min, true, false, cond, List, [], ◌∷◌, length}
+use Rattle.std.specs.Prelude.{ℕ, min, true, false, cond, List, [], ◌∷◌, length, Result, Ok, Err}
 use Rattle.sheet.specs.Lists.{elemb}
 use Rattle.sheet.specs.Checks.{NONE}
+use Rattle.sheet.specs.Refusals.{number_of}
 use Rattle.sheet.specs.Bytes.{part_at, begins_at}
 use Rattle.exercise.specs.Exercise.{cell_count, record_start}
 use Rattle.answer.specs.Answer.{apprentice, place_start}
 use Rattle.placing.specs.Members.{members}
 use Rattle.verdict.specs.declared.Fault.{Fault}
 use Rattle.verdict.specs.declared.Fault.TheVariants as fault
+use Rattle.verdict.specs.declared.Broken.{Broken}
+use Rattle.verdict.specs.declared.Broken.TheVariants as broken
 use Rattle.verdict.specs.declared.Finding.{Finding}
 use Rattle.verdict.specs.declared.Part.{Part}
 use Rattle.verdict.specs.declared.Verdict.{Verdict}
@@ -20,6 +23,17 @@ finding n i l = record { number = n; cell = i; lab = l }
 
 abbrev pub legal : Finding
 legal = finding 0 NONE NONE
+
+-- what a broken rule finds: its number, with the cell or the LAB that it refuses
+abbrev pub finding_of : Broken → Finding
+finding_of (broken.Sheet r) = finding (number_of r) NONE NONE
+finding_of (broken.Cell r i) = finding (number_of r) i.0 NONE
+finding_of (broken.Lab r l) = finding (number_of r) NONE l
+
+-- what an outcome finds
+abbrev pub found : {A : Type 0} → Result A Broken → Finding
+found (Ok x) = legal
+found (Err b) = finding_of b
 
 -- "the apprentice: 0 for numbers 1 to 23, otherwise the number on the answer sheet"; M-102: 70 to 75 "with apprentice 0"
 unfoldable pub apprentice_of : List ℕ → ℕ → ℕ

@@ -5,13 +5,14 @@ ghost use Rattle.sheet.specs.Lists.{elemb};
 ghost use Rattle.sheet.specs.Bytes.{begins_at};
 ghost use Rattle.exercise.specs.Exercise.{record_start};
 ghost use Rattle.answer.specs.Answer.{place_start};
+ghost use Rattle.verdict.specs.declared.Broken.TheVariants.{Sheet};
 ghost use Rattle.verdict.specs.Numbers.{fault_of, searched_numbers};
-ghost use Rattle.verdict.specs.Verdicts.{of_exercise, of_answer, apprentice_of, lowest_in, culprit_of, verdict_of, bytes_of};
+ghost use Rattle.verdict.specs.Verdicts.{finding_of, found, of_exercise, of_answer, apprentice_of, lowest_in, culprit_of, verdict_of, bytes_of};
 
-use sheet::{CellNumber, NONE};
+use sheet::{CellNumber, NONE, Refusal};
 
 // Where the fault of a number lies: in the call or its settings sheet (or there is none), or in that part of exercise or answer.
-#[derive(Clone, Copy)]
+#[derive(Clone, Copy, PartialEq, Eq)]
 pub enum Fault {
     Call,
     ExerciseHead,
@@ -45,23 +46,101 @@ const NAMELESS_NUMBERS: [u8; 19] = [
 const SEARCHED_NUMBERS: [u8; 2] = [0, 65];
 
 // What a stage finds: a number of document 01, or 0, with the cell and the LAB, or 65,535.
-#[derive(Clone, Copy)]
+#[derive(Clone, Copy, PartialEq, Eq)]
 pub struct Finding {
     pub number: u8,
     pub cell: u16,
     pub lab: u16,
 }
 
+// What a broken rule refuses: the call or a whole sheet, a cell, or a LAB.
+#[derive(Clone, Copy, PartialEq, Eq)]
+pub enum Broken {
+    Sheet(Refusal),
+    Cell(Refusal, CellNumber),
+    Lab(Refusal, u16),
+}
+
+impl From<Refusal> for Broken {
+    ghost from_gives = { λ r b. b ≡ Sheet r };
+
+    fn from(refusal: Refusal) -> Broken {
+        Broken::Sheet(refusal)
+    }
+}
+
+impl From<Broken> for Finding {
+    ghost from_gives = { λ b f. f ≡ finding_of b };
+
+    fn from(broken: Broken) -> Finding {
+        match broken {
+            Broken::Sheet(refusal) => Finding {
+                number: refusal.number(),
+                cell: NONE,
+                lab: NONE,
+            },
+            Broken::Cell(refusal, cell) => Finding {
+                number: refusal.number(),
+                cell: cell.0,
+                lab: NONE,
+            },
+            Broken::Lab(refusal, lab) => Finding {
+                number: refusal.number(),
+                cell: NONE,
+                lab,
+            },
+        }
+    }
+}
+
+impl Finding {
+    // What an outcome finds: no number, no cell and no LAB where no rule is broken.
+    pub fn of(outcome: Result<(), Broken>) -> Self
+        ensures { result ≡ found outcome }
+    {
+        match outcome {
+            Ok(()) => Finding {
+                number: 0,
+                cell: NONE,
+                lab: NONE,
+            },
+            Err(broken) => Finding::from(broken),
+        }
+    }
+}
+
 // A part of the exercise or of the answer.
-#[derive(Clone, Copy)]
+#[derive(Clone, Copy, PartialEq, Eq)]
 pub struct Part {
     pub of_answer: bool,
     pub start: usize,
     pub size: usize,
 }
 
+impl Part {
+    fn of_exercise(start: usize, size: usize) -> Self
+        ensures { result ≡ of_exercise start size }
+    {
+        Part {
+            of_answer: false,
+            start,
+            size,
+        }
+    }
+
+    fn of_answer(start: usize, size: usize) -> Self
+        ensures { result ≡ of_answer start size }
+    {
+        Part {
+            of_answer: true,
+            start,
+            size,
+        }
+    }
+}
+
 // The verdict: the culprit is a part of the exercise or of the answer.
-#[derive(Clone, Copy)]
+#[derive(Clone, Copy, PartialEq, Eq)]
 pub struct Verdict {
     pub number: u8,
     pub cell: u16,
@@ -70,26 +149,12 @@ pub struct Verdict {
     pub culprit: Part,
 }
 
-// Whether a number is in a list.
-fn is_among(number: u8, list: &[u8]) -> bool
-    ensures { result ≡ elemb number list.now }
-{
-    let mut i = 0;
-    while i < list.len() {
-        if list[i] == number {
-            return true;
-        }
-        i += 1;
-    }
-    false
-}
-
 // The apprentice: 0 for 1 to 23 (3 is among these) and 70 to 75, else the answer sheet's.
 #[tactic(auto, unfolding(crate::specs::Verdicts::apprentice_of))]
 pub fn apprentice_for(answer: &[u8], number: u8) -> u32
     ensures { result ≡ apprentice_of answer.now number }
 {
-    if is_among(number, &NAMELESS_NUMBERS) {
+    if NAMELESS_NUMBERS.contains(&number) {
         return 0;
     }
     answer::apprentice(answer)
@@ -99,40 +164,24 @@ pub fn apprentice_for(answer: &[u8], number: u8) -> u32
 fn lowest_in(answer: &[u8], cells: u16, lab: u16) -> u16
     ensures { result ≡ lowest_in answer.now cells lab }
 {
-    let mut i: u16 = 0;
-    while i < cells {
+    for i in 0..cells {
         if placing::lab_of(answer, CellNumber(i)) == lab {
             return i;
         }
-        i += 1;
     }
     NONE
-}
-
-fn smaller(a: usize, b: usize) -> usize
-    ensures { result ≡ min a b }
-{
-    if a < b { a } else { b }
 }
 
 fn record_of(cell: CellNumber) -> Part
     ensures { result ≡ of_exercise (record_start cell.0) 24 }
 {
-    Part {
-        of_answer: false,
-        start: exercise::record_start(cell),
-        size: exercise::RECORD_SIZE,
-    }
+    Part::of_exercise(exercise::record_start(cell), exercise::RECORD_SIZE)
 }
 
 fn place_of(cell: CellNumber) -> Part
     ensures { result ≡ of_answer (place_start cell.0) 4 }
 {
-    Part {
-        of_answer: true,
-        start: answer::place_start(cell),
-        size: answer::PLACE_SIZE,
-    }
+    Part::of_answer(answer::place_start(cell), answer::PLACE_SIZE)
 }
 
 // Where the fault of a number lies.
@@ -140,19 +189,19 @@ fn place_of(cell: CellNumber) -> Part
 fn fault_of(number: u8) -> Fault
     ensures { result ≡ fault_of number }
 {
-    if is_among(number, &EXERCISE_HEAD_NUMBERS) {
+    if EXERCISE_HEAD_NUMBERS.contains(&number) {
         return Fault::ExerciseHead;
     }
-    if is_among(number, &RECORD_NUMBERS) {
+    if RECORD_NUMBERS.contains(&number) {
         return Fault::Record;
     }
-    if is_among(number, &ANSWER_HEAD_NUMBERS) {
+    if ANSWER_HEAD_NUMBERS.contains(&number) {
         return Fault::AnswerHead;
     }
-    if is_among(number, &PLACE_NUMBERS) {
+    if PLACE_NUMBERS.contains(&number) {
         return Fault::Place;
     }
-    if is_among(number, &LAB_NUMBERS) {
+    if LAB_NUMBERS.contains(&number) {
         return Fault::Lab;
     }
     Fault::Call
@@ -162,33 +211,17 @@ fn fault_of(number: u8) -> Fault
 fn culprit_of(exercise: &[u8], answer: &[u8], f: Finding) -> Part
     ensures { result ≡ culprit_of exercise.now answer.now f }
 {
-    let fault = fault_of(f.number);
-    match fault {
-        Fault::Call => {
-            return Part {
-                of_answer: true,
-                start: answer.len(),
-                size: 0,
-            };
-        }
+    match fault_of(f.number) {
+        Fault::Call => Part::of_answer(answer.len(), 0),
         Fault::ExerciseHead => {
-            return Part {
-                of_answer: false,
-                start: 0,
-                size: smaller(exercise::EXERCISE_HEADER, exercise.len()),
-            };
+            Part::of_exercise(0, exercise::EXERCISE_HEADER.min(exercise.len()))
         }
-        Fault::Record => return record_of(CellNumber(f.cell)),
-        Fault::AnswerHead => {
-            return Part {
-                of_answer: true,
-                start: 0,
-                size: smaller(answer::ANSWER_HEADER, answer.len()),
-            };
-        }
-        Fault::Place => return place_of(CellNumber(f.cell)),
+        Fault::Record => record_of(CellNumber(f.cell)),
+        Fault::AnswerHead => Part::of_answer(0, answer::ANSWER_HEADER.min(answer.len())),
+        Fault::Place => place_of(CellNumber(f.cell)),
         Fault::Lab => {
-            return place_of(CellNumber(lowest_in(answer, exercise::cell_count(exercise), f.lab)));
+            let cells = exercise::cell_count(exercise);
+            place_of(CellNumber(lowest_in(answer, cells, f.lab)))
         }
     }
 }
@@ -222,40 +255,15 @@ pub fn part_of<'a>(exercise: &'a [u8], answer: &'a [u8], p: Part) -> &'a [u8]
     sheet::part(exercise, start, size)
 }
 
-// A number in 32 bits.
-pub fn wide8(n: u8) -> u32
-    ensures { result ≡ n }
+// Hands a list over where that is asked for, into one of its length.
+fn hand<T: Copy>(asked: bool, from: &[T], to: &mut [T])
+    ensures { to.new ≡ cond (eqb (length from.now) (length to.old)) (cond asked from.now to.old) to.old }
 {
-    n as u32
-}
-
-pub fn wide16(n: u16) -> u32
-    ensures { result ≡ n }
-{
-    n as u32
-}
-
-// Copies the rows into the route buffer.
-fn copy(rows: &[u8], route: &mut [u8])
-    requires { length rows.now ≡ length route.old }
-    ensures { route.new ≡ rows.now }
-{
-    let mut k = 0;
-    while k < route.len() {
-        route[k] = rows[k];
-        k += 1;
+    if from.len() != to.len() {
+        return;
     }
-}
-
-// Copies the numbers of tries into the lent list.
-fn copy_tries(counts: &[u32], tries: &mut [u32])
-    requires { length counts.now ≡ length tries.old }
-    ensures { tries.new ≡ counts.now }
-{
-    let mut k = 0;
-    while k < tries.len() {
-        tries[k] = counts[k];
-        k += 1;
+    if asked {
+        to.copy_from_slice(from);
     }
 }
 
@@ -263,22 +271,12 @@ fn copy_tries(counts: &[u32], tries: &mut [u32])
 pub fn hand_route(number: u8, rows: &[u8], route: &mut [u8])
     ensures { route.new ≡ cond (eqb (length rows.now) (length route.old)) (cond (eqb number 0) rows.now route.old) route.old }
 {
-    if rows.len() != route.len() {
-        return;
-    }
-    if number == 0 {
-        copy(rows, route);
-    }
+    hand(number == 0, rows, route);
 }
 
 // The tries are written where nothing is broken, or 65, into a list of their length.
 pub fn hand_tries(number: u8, counts: &[u32], tries: &mut [u32])
     ensures { tries.new ≡ cond (eqb (length counts.now) (length tries.old)) (cond (elemb number searched_numbers) counts.now tries.old) tries.old }
 {
-    if counts.len() != tries.len() {
-        return;
-    }
-    if is_among(number, &SEARCHED_NUMBERS) {
-        copy_tries(counts, tries);
-    }
+    hand(SEARCHED_NUMBERS.contains(&number), counts, tries);
 }

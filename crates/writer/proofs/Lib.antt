@@ -1,9 +1,7 @@
 pub mod Sheets
 pub mod Putting
-pub mod Rooms
 pub mod Judged
 pub mod Outcome
-pub mod BoardChecks
 pub mod Again
 pub mod ExerciseLaws
 pub mod AnswerLaws

@@ -1,17 +1,16 @@
--- What a writer answers and leaves in the buffer, with a refusal and without one; what holds where no check is broken; and 26 of places, by their
--- numbers. Assumes nothing.
-use Prim.Native.Nat.{ℕ, ◌≤◌, ◌<◌}
+-- What holds where no check of a writer is broken, and 26 of places, by their numbers. Assumes nothing.
+use Prim.Native.Nat.{ℕ, ◌+◌, ◌≤◌, ◌<◌}
 use mathlib.Core.Path.{◌≡◌, refl, sym, ap, ◌∙◌}
-use mathlib.Core.Bool.{Bool, true, false, cond, ◌||◌}
+use mathlib.Core.Bool.{false, ◌||◌}
 use mathlib.Core.List.{List, [], ◌∷◌}
 use native.Mathlib.Omega.{arith}
 use lib.ListN.{length, get_or, take, replicate, length-replicate}
 use lib.Seq.{sets}
 use lib.Dec.{ltb}
-use borrow.Author.Tests.{ne_eqb, ltb-false, lt-ltb, le-ltb}
+use borrow.Author.Tests.{ltb-false}
 use Rattle.sheet.specs.Lists.{concat_map, anyb, below}
 use Rattle.sheet.specs.Bytes.{low_byte}
-use Rattle.sheet.proofs.Laws.{by_test, or_parts, passes, stops, passes_by, stops_by}
+use Rattle.sheet.proofs.Laws.{by_test, or_parts}
 use Rattle.sheet.proofs.Checks.{all_held}
 use Rattle.sheet.proofs.Lists.{any-get_or}
 use Rattle.sheet.proofs.Scan.{any_below}
@@ -19,38 +18,14 @@ use Rattle.sheet.proofs.First.{first_below}
 use Rattle.exercise.specs.Exercise.{record_start}
 use Rattle.answer.specs.Answer.{place_start, placed_of, placed_at}
 use Rattle.placing.specs.Places.{is_out_of_range, out_of_range_at}
-use Rattle.writer.specs.declared.Written.{Written}
-use Rattle.writer.specs.Writing.{told, buffer_after}
 use Rattle.writer.specs.Exercises.{Netlist, exercise_sheet, exercise_writer_checks, exercise_refusal}
 use Rattle.writer.specs.Answers.{Placement, place_bytes, answer_sheet, answer_writer_checks, answer_refusal}
+use Rattle.entries.specs.Table.{ENTRIES}
+use Rattle.settings.specs.Settings.{head_of}
+use Rattle.writer.specs.Boards.{Board, settings_writer_checks, settings_refusal}
 use Rattle.writer.specs.passes.Put.{cut_bytes, cut_sheet, off_board}
 use Rattle.writer.proofs.Sheets.{exercise_length, answer_part}
-use Rattle.writer.proofs.Putting.{front_stored, front_is}
-
--- ---- the answer and the buffer
-module _ (r n : ℕ) (sheet lent : List ℕ) (is : r ≡ n) where
-  pub refused : (r ≡ 0 → ⊥) → (◌≡◌ {A = Written} (record { number = r; length = 0 }) (told n sheet)) × (lent ≡ buffer_after n sheet lent)
-  refused h = (rw (← is, ne_eqb r 0 h), rw (← is, ne_eqb r 0 h))
-
-  pub accepted : (to : List ℕ) (size : ℕ) → r ≡ 0 → length sheet ≡ size → size ≤ length lent → to ≡ sets lent 0 sheet
-      → (◌≡◌ {A = Written} (record { number = 0; length = size }) (told n sheet)) × (to ≡ buffer_after n sheet lent)
-  accepted to size h e room s = (rw (← is, h, e), rw (← is, h) (s ∙ front_stored lent sheet (rw e room)))
-
--- ---- the first two checks of an exercise and of an answer: 2, and 13 for the records
-module _ (room needs total : ℕ) (short : Bool) (is : short ≡ ltb room needs) (later : ℕ) where
-  abbrev first_two : ℕ
-  first_two = cond (ltb room needs) 2 (cond (ltb 512 total) 13 later)
-
-  -- 2, the buffer is too short
-  pub says_2 : short ≡ true → 2 ≡ first_two
-  says_2 h = stops_by (ltb room needs) short 2 _ is h refl
-
-  -- 13, there are too many records
-  pub says_13 : short ≡ false → 512 < total → 13 ≡ first_two
-  says_13 h over = passes_by (ltb room needs) short 2 _ is h (stops (ltb 512 total) 13 later (lt-ltb 512 total over) refl)
-
-  pub goes_on : {r : ℕ} → short ≡ false → total ≤ 512 → r ≡ later → r ≡ first_two
-  goes_on h few e = passes_by (ltb room needs) short 2 _ is h (passes (ltb 512 total) 13 later (le-ltb 512 total few) e)
+use Rattle.writer.proofs.Putting.{front_is}
 
 -- ---- no check is broken
 -- an exercise that is not refused has room, and few cells
@@ -78,6 +53,17 @@ unfolding answer_refusal
 answer_fits x room h =
     let k = all_held (answer_writer_checks x room) refl h in
     record { roomy = ltb-false _ _ k.0; few = ltb-false _ _ k.1.0; placed = k.1.1.1.0 }
+
+-- a settings sheet that is not refused has room, and few entries
+pub record SettingsFit (x : Board) (room : ℕ) : Type 0 where
+  pub roomy : head_of x.version + length x.entries ≤ room
+  pub few : length x.entries ≤ ENTRIES
+
+pub settings_fit : (x : Board) (room : ℕ) → settings_refusal x room ≡ 0 → SettingsFit x room
+unfolding settings_refusal
+settings_fit x room h =
+    let (_, (few, (_, (fits, _)))) = all_held (settings_writer_checks x room) refl h in
+    record { roomy = ltb-false _ _ fits; few = ltb-false _ _ few }
 
 -- a buffer for the longest exercise has the sheet in front once it is stored
 pub sheet_in_front : (x : Netlist) (to : List ℕ) → length x.cells ≤ 512 → to ≡ sets (replicate 12297 0) 0 (exercise_sheet x)

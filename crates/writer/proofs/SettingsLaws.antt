@@ -22,7 +22,6 @@ use Rattle.writer.specs.Boards.{Board, settings_head, settings_sheet, board_of}
 use Rattle.writer.specs.Boards.{wrong_board, settings_writer_checks, settings_refusal, SettingsPass}
 use Rattle.writer.specs.Laws.{TwoLaws, settings_format}
 use Rattle.writer.proofs.Sheets.{settings_length, version_back, count_back, flags_back}
-use Rattle.writer.proofs.Rooms.{six_fit}
 use Rattle.writer.proofs.Again.{joined, bytes_front, two_laws}
 
 -- ---- the board's number where 72 does not refuse it
@@ -38,6 +37,10 @@ number_left v number h second =
     eqb-true number 0 (not-false _ (rw (version_left v known second) at zero))
 
 -- ---- the first law
+-- the head is six bytes at the least
+six_fit : (version room : ℕ) → head_of version ≤ room → 6 ≤ room
+six_fit version room h = by_test (eqb version 2) (λ t. let k = rw t at h in omega arith) (λ t. rw t at h)
+
 module _ (x : Board) where
   abbrev n : ℕ
   n = length x.entries

@@ -16,6 +16,7 @@ use Rattle.exercise.specs.Record.{record_bytes}
 use Rattle.writer.specs.Exercises.{Netlist, exercise_head, exercise_sheet}
 use Rattle.writer.specs.Answers.{Placement, answer_head, place_bytes, answer_sheet}
 use Rattle.writer.specs.Boards.{Board, settings_head, settings_sheet}
+use Rattle.writer.specs.passes.Put.{record_size}
 
 -- ---- parts of w bytes each
 module _ {A : Type 0} (w : ℕ) (f : A → List ℕ) (each : (x : A) → length (f x) ≡ w) where
@@ -42,10 +43,6 @@ module _ {A : Type 0} (w : ℕ) (f : A → List ℕ) (each : (x : A) → length 
         ∙ parts_at xs d i l
 
 -- ---- the exercise sheet
-pub record_size : (c : List ℕ) → length (record_bytes c) ≡ 24
-unfolding record_bytes
-record_size c = refl
-
 pub exercise_head_size : (nets total : ℕ) → length (exercise_head nets total) ≡ 9
 unfolding exercise_head
 exercise_head_size nets total = refl

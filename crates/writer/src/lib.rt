@@ -1,24 +1,23 @@
 #![tactic(auto)]
 
-ghost use Rattle.std.specs.Prelude.{◌≡◌, [], ◌∷◌, ◌+◌, ◌*◌, ◌≤◌, ◌<◌, ◌^◌, length, ltb};
+ghost use Rattle.std.specs.Prelude.{◌≡◌, refl, ℕ, List, [], ◌∷◌, ◌++◌, ◌+◌, ◌*◌, ◌≤◌, ◌<◌, ◌^◌, length, drop, ltb};
 ghost use Rattle.std.proofs.lemmas.List.Edits.{sets};
 ghost use Rattle.sheet.specs.Lists.{concat_map, anyb, below};
 ghost use Rattle.sheet.specs.Bytes.{u16_bytes, u32_bytes};
+ghost use Rattle.sheet.specs.Refusals.{told_number};
 ghost use Rattle.exercise.specs.Exercise.{net_count, record_start};
 ghost use Rattle.answer.specs.Answer.{place_start};
-ghost use Rattle.writer.specs.Writing.{told, buffer_after};
+ghost use Rattle.writer.specs.Writing.{written_from, told, buffer_after};
 ghost use Rattle.exercise.specs.Record.{record_bytes};
 ghost use Rattle.writer.specs.Exercises.{netlist, exercise_head, exercise_sheet, records_number, exercise_refusal};
 ghost use Rattle.writer.specs.Answers.{placement, answer_head, answer_sheet, answer_refusal};
 ghost use Rattle.settings.specs.Settings.{head_of};
 ghost use Rattle.writer.specs.Boards.{board, settings_head, settings_sheet, wrong_board, settings_refusal};
-ghost use Rattle.writer.specs.passes.Put.{cut_bytes, cut_sheet, off_board, mark_bytes};
+ghost use Rattle.writer.specs.passes.Put.{record_size, cut_bytes, cut_size, cut_sheet, off_board, mark_bytes};
 
 use answer::{ANSWER_HEADER, APPRENTICE_AT, MAX_COLUMN, MAX_LE, MAX_ROW, PLACE_SIZE, PLACES_AT};
-use exercise::{
-    CELL_NUMBERS, CELLS_AT, Cell, EXERCISE_HEADER, MAX_CELLS, MAX_NETS, NETS_AT, RECORD_SIZE,
-};
-use sheet::VERSION_AT;
+use exercise::{CELLS_AT, Cell, EXERCISE_HEADER, MAX_CELLS, MAX_NETS, NETS_AT, RECORD_SIZE};
+use sheet::{Refusal, VERSION_AT};
 
 // A place as three numbers: x, y and LE.
 pub const PLACE_NUMBERS: usize = 3;
@@ -31,31 +30,130 @@ const MAX_RECORDS: usize = MAX_CELLS as usize;
 // The length of the longest exercise.
 const LONGEST_EXERCISE: usize = EXERCISE_HEADER + RECORD_SIZE * MAX_RECORDS;
 
-// What a writer answers: a refusal's number and length 0, or number 0 and the length of the sheet.
-#[derive(Clone, Copy)]
-pub struct Written {
-    pub number: u8,
-    pub length: usize,
+// A value that stands on a sheet as so many bytes.
+trait Part: Copy {
+    ghost SIZE: { ℕ };
+
+    ghost bytes: { Self → List ℕ };
+
+    const SIZE: usize;
+
+    // Stores its bytes.
+    fn put(self, to: &mut [u8], at: usize)
+        requires { at + SIZE ≤ length to.old }
+        ensures { to.new ≡ sets to.old at (bytes self) };
+
+    ghost sized: { (x : Self) → length (bytes x) ≡ SIZE };
 }
 
-// Stores the two bytes of a number, low byte first.
-fn put_u16(to: &mut [u8], at: usize, n: u16)
-    requires { at + 2 ≤ length to.old }
-    ensures { to.new ≡ sets to.old at (u16_bytes n) }
-{
-    let low = sheet::low_byte(n);
-    let high = sheet::high_byte(n);
-    to[at] = low;
-    to[at + 1] = high;
+// What a sheet of some format says.
+trait Format {
+    ghost refusal: { Self → ℕ → ℕ };
+
+    ghost sheet: { Self → List ℕ };
+
+    // What refuses it in a buffer of so many bytes.
+    fn check(&self, room: usize) -> Result<(), Refusal>
+        ensures { told_number result ≡ refusal self.now room };
+
+    // Stores its sheet from the buffer's start on. The length of the sheet.
+    fn put(&self, to: &mut [u8]) -> usize
+        requires { refusal self.now (length to.old) ≡ 0 }
+        ensures size { result ≡ length (sheet self.now) }
+        ensures stored { to.new ≡ sheet self.now ++ drop (length (sheet self.now)) to.old };
 }
 
-// Stores the four bytes of a number, low half first.
-fn put_u32(to: &mut [u8], at: usize, n: u32)
-    requires { at + 4 ≤ length to.old }
-    ensures { to.new ≡ sets to.old at (u32_bytes n) }
+// Writes a sheet.
+fn write<F: Format>(sheet: &F, out: &mut [u8]) -> Result<usize, Refusal>
+    ensures told { written_from result ≡ told (F.refusal sheet.now (length out.old)) (F.sheet sheet.now) }
+    ensures written { out.new ≡ buffer_after (F.refusal sheet.now (length out.old)) (F.sheet sheet.now) out.old }
 {
-    put_u16(to, at, (n % 65536) as u16);
-    put_u16(to, at + 2, (n / 65536) as u16);
+    sheet.check(out.len())?;
+    Ok(sheet.put(out))
+}
+
+// Stores bytes.
+#[tactic(auto, using(crate::proofs::Putting::part_stored))]
+fn put_bytes(to: &mut [u8], at: usize, bytes: &[u8])
+    requires { at + length bytes.now ≤ length to.old }
+    ensures { to.new ≡ sets to.old at bytes.now }
+{
+    to[at..at + bytes.len()].copy_from_slice(bytes);
+}
+
+// Stores parts one after the other.
+fn put_each<P: Part>(to: &mut [u8], at: usize, parts: &[P])
+    requires { at + P.SIZE * length parts.now ≤ length to.old }
+    ensures { to.new ≡ sets to.old at (concat_map P.bytes parts.now) }
+{
+    for (i, part) in parts.iter().enumerate() {
+        part.put(to, at + P::SIZE * i);
+    }
+}
+
+// A number's bytes, the low one first.
+impl Part for u16 {
+    ghost SIZE = { 2 };
+
+    ghost bytes = { u16_bytes };
+
+    ghost sized = { λ n. refl };
+
+    const SIZE: usize = 2;
+
+    fn put(self, to: &mut [u8], at: usize) {
+        put_bytes(to, at, &sheet::u16_bytes(self));
+    }
+}
+
+impl Part for u32 {
+    ghost SIZE = { 4 };
+
+    ghost bytes = { u32_bytes };
+
+    ghost sized = { λ n. refl };
+
+    const SIZE: usize = 4;
+
+    fn put(self, to: &mut [u8], at: usize) {
+        put_bytes(to, at, &self.to_le_bytes());
+    }
+}
+
+// A cell's record.
+impl Part for Cell {
+    ghost SIZE = { 24 };
+
+    ghost bytes = { record_bytes };
+
+    ghost sized = { record_size };
+
+    const SIZE: usize = RECORD_SIZE;
+
+    #[tactic(auto, using(crate::proofs::Putting::cell_bytes))]
+    fn put(self, to: &mut [u8], at: usize) {
+        put_each(to, at, &self);
+    }
+}
+
+// A place's record: each number's low byte, and a zero.
+impl Part for CellPlace {
+    ghost SIZE = { 4 };
+
+    ghost bytes = { cut_bytes };
+
+    ghost sized = { cut_size };
+
+    const SIZE: usize = PLACE_SIZE;
+
+    #[tactic(auto, unfolding(crate::specs::passes::Put::cut_bytes))]
+    fn put(self, to: &mut [u8], at: usize) {
+        let [x, y, le] = self;
+        let [x, _] = sheet::u16_bytes(x);
+        let [y, _] = sheet::u16_bytes(y);
+        let [le, _] = sheet::u16_bytes(le);
+        put_bytes(to, at, &[x, y, le, 0]);
+    }
 }
 
 // Stores the mark with this third letter, and a version.
@@ -64,172 +162,99 @@ fn put_mark(to: &mut [u8], third: u8, version: u16)
     requires { 5 ≤ length to.old }
     ensures { to.new ≡ sets to.old 0 (mark_bytes third version) }
 {
-    to[0] = b'L';
-    to[1] = b'X';
-    to[2] = third;
-    put_u16(to, VERSION_AT, version);
+    put_bytes(to, 0, &[b'L', b'X', third]);
+    version.put(to, VERSION_AT);
 }
 
-// Stores a cell's record.
-#[tactic(auto, unfolding(exercise::specs::Record::record_bytes))]
-fn put_record(to: &mut [u8], at: usize, cell: Cell)
-    requires { at + 24 ≤ length to.old }
-    ensures { to.new ≡ sets to.old at (record_bytes cell) }
-{
-    let mut j: usize = 0;
-    while j < CELL_NUMBERS {
-        put_u16(to, at + 2 * j, cell[j]);
-        j += 1;
-    }
-}
-
-// Stores the records of all cells.
-fn put_records(to: &mut [u8], cells: &[Cell])
-    requires { record_start (length cells.now) ≤ length to.old }
-    ensures { to.new ≡ sets to.old 9 (concat_map record_bytes cells.now) }
-{
-    let mut i: usize = 0;
-    while i < cells.len() {
-        put_record(to, EXERCISE_HEADER + RECORD_SIZE * i, cells[i]);
-        i += 1;
-    }
-}
-
-// Stores the exercise's head.
-#[tactic(auto, unfolding(crate::specs::Exercises::exercise_head, crate::specs::passes::Put::mark_bytes))]
-fn put_exercise_head(to: &mut [u8], nets: u16, total: u16)
-    requires { 9 ≤ length to.old }
-    ensures { to.new ≡ sets to.old 0 (exercise_head nets total) }
-{
-    put_mark(to, b'E', 1);
-    put_u16(to, NETS_AT, nets);
-    put_u16(to, CELLS_AT, total);
-}
-
-// Stores an exercise sheet.
-#[tactic(auto, unfolding(crate::specs::Exercises::exercise_head, crate::specs::Exercises::exercise_sheet))]
-fn put_exercise(to: &mut [u8], nets: u16, cells: &[Cell])
-    requires { (record_start (length cells.now) ≤ length to.old) × (length cells.now ≤ 512) }
-    ensures { to.new ≡ sets to.old 0 (exercise_sheet (netlist nets cells.now)) }
-{
-    put_exercise_head(to, nets, cells.len() as u16);
-    put_records(to, cells);
-}
-
-// 15 and 16 of a sheet: the number that applies, or 0.
-fn records_number(exercise: &[u8]) -> u8
+// 15 and 16 of a sheet.
+#[tactic(auto, using(crate::proofs::Judged::says_15, crate::proofs::Judged::says_16, crate::proofs::Judged::says_0))]
+fn check_records(exercise: &[u8]) -> Result<(), Refusal>
     requires { net_count exercise.now ≤ 1024 }
-    ensures { result ≡ records_number exercise.now }
+    ensures { told_number result ≡ records_number exercise.now }
 {
     let nets = exercise::net_count(exercise);
     let cells = exercise::cell_count(exercise);
-    if tables::first_malformed(exercise, nets, cells) < cells {
-        return 15;
+    if tables::first_malformed(exercise, nets, cells).is_some() {
+        return Err(Refusal::Malformed);
     }
-    if tables::first_double_driver(exercise, cells) < cells {
-        return 16;
+    if tables::first_double_driver(exercise, cells).is_some() {
+        return Err(Refusal::DoubleDriver);
     }
-    0
+    Ok(())
 }
 
-// 15 and 16 of the sheet that would be written.
-fn cells_number(nets: u16, cells: &[Cell]) -> u8
-    requires { (nets ≤ 1024) × (length cells.now ≤ 512) }
-    ensures { result ≡ records_number (exercise_sheet (netlist nets cells.now)) }
-{
-    let mut sheet = [0u8; LONGEST_EXERCISE];
-    put_exercise(&mut sheet, nets, cells);
-    let size = EXERCISE_HEADER + RECORD_SIZE * cells.len();
-    records_number(&sheet[..size])
+// An exercise: how many nets, and its cells.
+#[derive(Clone, Copy)]
+struct Netlist<'a> {
+    nets: u16,
+    cells: &'a [Cell],
 }
 
-// Whether a buffer is shorter than so many records of this size after such a head.
-fn too_short(room: usize, head: usize, each: usize, total: usize) -> bool
-    requires { 0 < each }
-    ensures { result ≡ ltb room (head + each * total) }
-{
-    if room < head {
-        return true;
+impl Netlist<'_> {
+    #[tactic(auto, unfolding(crate::specs::Exercises::exercise_head, crate::specs::passes::Put::mark_bytes))]
+    fn put_head(&self, to: &mut [u8])
+        requires { (9 ≤ length to.old) × (length self.now.cells.now ≤ 512) }
+        ensures { to.new ≡ sets to.old 0 (exercise_head self.now.nets (length self.now.cells.now)) }
+    {
+        put_mark(to, b'E', 1);
+        self.nets.put(to, NETS_AT);
+        (self.cells.len() as u16).put(to, CELLS_AT);
     }
-    (room - head) / each < total
+
+    // Stores the sheet. Its length.
+    #[tactic(auto, unfolding(crate::specs::Exercises::exercise_head, crate::specs::Exercises::exercise_sheet))]
+    fn put_sheet(&self, to: &mut [u8]) -> usize
+        requires { (record_start (length self.now.cells.now) ≤ length to.old) × (length self.now.cells.now ≤ 512) }
+        ensures size { result ≡ record_start (length self.now.cells.now) }
+        ensures stored { to.new ≡ sets to.old 0 (exercise_sheet (netlist self.now.nets self.now.cells.now)) }
+    {
+        self.put_head(to);
+        put_each(to, EXERCISE_HEADER, self.cells);
+        EXERCISE_HEADER + RECORD_SIZE * self.cells.len()
+    }
+
+    // 15 and 16 of the sheet that would be written.
+    fn check_cells(&self) -> Result<(), Refusal>
+        requires { (self.now.nets ≤ 1024) × (length self.now.cells.now ≤ 512) }
+        ensures { told_number result ≡ records_number (exercise_sheet (netlist self.now.nets self.now.cells.now)) }
+    {
+        let mut sheet = [0u8; LONGEST_EXERCISE];
+        let size = self.put_sheet(&mut sheet);
+        check_records(&sheet[..size])
+    }
 }
 
-// The number that refuses an exercise, or 0.
-#[tactic(auto, unfolding(crate::specs::Exercises::exercise_refusal, crate::specs::Exercises::records_number))]
-fn exercise_refusal(nets: u16, cells: &[Cell], room: usize) -> u8
-    ensures { result ≡ exercise_refusal (netlist nets cells.now) room }
-{
-    if too_short(room, EXERCISE_HEADER, RECORD_SIZE, cells.len()) {
-        return 2;
+impl Format for Netlist<'_> {
+    ghost refusal = { λ x room. exercise_refusal (netlist x.nets x.cells.now) room };
+
+    ghost sheet = { λ x. exercise_sheet (netlist x.nets x.cells.now) };
+
+    #[tactic(auto, unfolding(crate::specs::Exercises::exercise_refusal, crate::specs::Exercises::records_number))]
+    fn check(&self, room: usize) -> Result<(), Refusal> {
+        if room < EXERCISE_HEADER + RECORD_SIZE * self.cells.len() {
+            return Err(Refusal::SheetBufferLength);
+        }
+        if MAX_RECORDS < self.cells.len() {
+            return Err(Refusal::OverLimit);
+        }
+        if MAX_NETS < self.nets {
+            return Err(Refusal::OverLimit);
+        }
+        self.check_cells()
     }
-    if MAX_RECORDS < cells.len() {
-        return 13;
+
+    #[tactic(auto, using(crate::proofs::Outcome::exercise_fits, crate::proofs::Sheets::exercise_length, crate::proofs::Putting::front_stored))]
+    fn put(&self, to: &mut [u8]) -> usize {
+        self.put_sheet(to)
     }
-    if MAX_NETS < nets {
-        return 13;
-    }
-    cells_number(nets, cells)
 }
 
 // Writes the exercise sheet of so many nets and these cells.
-pub fn write_exercise(nets: u16, cells: &[Cell], out: &mut [u8]) -> Written
-    ensures told { result ≡ told (exercise_refusal (netlist nets cells.now) (length out.old)) (exercise_sheet (netlist nets cells.now)) }
+pub fn write_exercise(nets: u16, cells: &[Cell], out: &mut [u8]) -> Result<usize, Refusal>
+    ensures told { written_from result ≡ told (exercise_refusal (netlist nets cells.now) (length out.old)) (exercise_sheet (netlist nets cells.now)) }
     ensures written { out.new ≡ buffer_after (exercise_refusal (netlist nets cells.now) (length out.old)) (exercise_sheet (netlist nets cells.now)) out.old }
 {
-    let number = exercise_refusal(nets, cells, out.len());
-    if number != 0 {
-        return Written { number, length: 0 };
-    }
-    put_exercise(out, nets, cells);
-    Written {
-        number: 0,
-        length: EXERCISE_HEADER + RECORD_SIZE * cells.len(),
-    }
-}
-
-// Stores a place's record.
-#[tactic(auto, unfolding(crate::specs::passes::Put::cut_bytes))]
-fn put_place(to: &mut [u8], at: usize, place: CellPlace)
-    requires { at + 4 ≤ length to.old }
-    ensures { to.new ≡ sets to.old at (cut_bytes place) }
-{
-    to[at] = sheet::low_byte(place[0]);
-    to[at + 1] = sheet::low_byte(place[1]);
-    to[at + 2] = sheet::low_byte(place[2]);
-    to[at + 3] = 0;
-}
-
-// Stores the records of all places.
-fn put_places(to: &mut [u8], places: &[CellPlace])
-    requires { place_start (length places.now) ≤ length to.old }
-    ensures { to.new ≡ sets to.old 11 (concat_map cut_bytes places.now) }
-{
-    let mut i: usize = 0;
-    while i < places.len() {
-        put_place(to, ANSWER_HEADER + PLACE_SIZE * i, places[i]);
-        i += 1;
-    }
-}
-
-// Stores the answer's head.
-#[tactic(auto, unfolding(crate::specs::Answers::answer_head, crate::specs::passes::Put::mark_bytes))]
-fn put_answer_head(to: &mut [u8], apprentice: u32, total: u16)
-    requires { 11 ≤ length to.old }
-    ensures { to.new ≡ sets to.old 0 (answer_head apprentice total) }
-{
-    put_mark(to, b'A', 1);
-    put_u32(to, APPRENTICE_AT, apprentice);
-    put_u16(to, PLACES_AT, total);
-}
-
-// Stores an answer sheet.
-#[tactic(auto, unfolding(crate::specs::Answers::answer_head, crate::specs::passes::Put::cut_sheet))]
-fn put_answer(to: &mut [u8], apprentice: u32, places: &[CellPlace])
-    requires { (place_start (length places.now) ≤ length to.old) × (length places.now ≤ 512) }
-    ensures { to.new ≡ sets to.old 0 (cut_sheet (placement apprentice places.now)) }
-{
-    put_answer_head(to, apprentice, places.len() as u16);
-    put_places(to, places);
+    write(&Netlist { nets, cells }, out)
 }
 
 // Whether a place is out of range.
@@ -237,153 +262,180 @@ fn put_answer(to: &mut [u8], apprentice: u32, places: &[CellPlace])
 fn is_off_board(place: CellPlace) -> bool
     ensures { result ≡ off_board place }
 {
-    let column = (MAX_COLUMN as u16) < place[0];
-    let row = (MAX_ROW as u16) < place[1];
-    let element = (MAX_LE as u16) < place[2];
-    column | row | element
+    let [x, y, le] = place;
+    u16::from(MAX_COLUMN) < x || u16::from(MAX_ROW) < y || u16::from(MAX_LE) < le
 }
 
 // Whether some place is out of range.
 fn some_off_board(places: &[CellPlace]) -> bool
     ensures { result ≡ anyb off_board places.now }
 {
-    let mut i: usize = 0;
-    while i < places.len() {
-        if is_off_board(places[i]) {
-            return true;
-        }
-        i += 1;
-    }
-    false
+    places.iter().any(|&place| is_off_board(place))
 }
 
-// The number that refuses an answer, or 0.
-#[tactic(auto, unfolding(crate::specs::Answers::answer_refusal))]
-fn answer_refusal(apprentice: u32, places: &[CellPlace], room: usize) -> u8
-    ensures { result ≡ answer_refusal (placement apprentice places.now) room }
-{
-    if too_short(room, ANSWER_HEADER, PLACE_SIZE, places.len()) {
-        return 2;
+// An answer: the apprentice, and the places of the cells.
+#[derive(Clone, Copy)]
+struct Placement<'a> {
+    apprentice: u32,
+    places: &'a [CellPlace],
+}
+
+impl Placement<'_> {
+    #[tactic(auto, unfolding(crate::specs::Answers::answer_head, crate::specs::passes::Put::mark_bytes))]
+    fn put_head(&self, to: &mut [u8])
+        requires { (11 ≤ length to.old) × (length self.now.places.now ≤ 512) }
+        ensures { to.new ≡ sets to.old 0 (answer_head self.now.apprentice (length self.now.places.now)) }
+    {
+        put_mark(to, b'A', 1);
+        self.apprentice.put(to, APPRENTICE_AT);
+        (self.places.len() as u16).put(to, PLACES_AT);
     }
-    if MAX_RECORDS < places.len() {
-        return 13;
+
+    // Stores the sheet. Its length.
+    #[tactic(auto, unfolding(crate::specs::Answers::answer_head, crate::specs::passes::Put::cut_sheet))]
+    fn put_sheet(&self, to: &mut [u8]) -> usize
+        requires { (place_start (length self.now.places.now) ≤ length to.old) × (length self.now.places.now ≤ 512) }
+        ensures size { result ≡ place_start (length self.now.places.now) }
+        ensures stored { to.new ≡ sets to.old 0 (cut_sheet (placement self.now.apprentice self.now.places.now)) }
+    {
+        self.put_head(to);
+        put_each(to, ANSWER_HEADER, self.places);
+        ANSWER_HEADER + PLACE_SIZE * self.places.len()
     }
-    if apprentice == 0 {
-        return 23;
+}
+
+impl Format for Placement<'_> {
+    ghost refusal = { λ x room. answer_refusal (placement x.apprentice x.places.now) room };
+
+    ghost sheet = { λ x. answer_sheet (placement x.apprentice x.places.now) };
+
+    #[tactic(auto, using(crate::proofs::Outcome::any_out), unfolding(crate::specs::Answers::answer_refusal))]
+    fn check(&self, room: usize) -> Result<(), Refusal> {
+        if room < ANSWER_HEADER + PLACE_SIZE * self.places.len() {
+            return Err(Refusal::SheetBufferLength);
+        }
+        if MAX_RECORDS < self.places.len() {
+            return Err(Refusal::OverLimit);
+        }
+        if self.apprentice == 0 {
+            return Err(Refusal::NoApprentice);
+        }
+        if some_off_board(self.places) {
+            return Err(Refusal::OutOfRange);
+        }
+        Ok(())
     }
-    if some_off_board(places) {
-        return 26;
+
+    #[tactic(auto, using(crate::proofs::Outcome::answer_fits, crate::proofs::Outcome::cut_same, crate::proofs::Sheets::answer_length, crate::proofs::Putting::front_stored))]
+    fn put(&self, to: &mut [u8]) -> usize {
+        self.put_sheet(to)
     }
-    0
 }
 
 // Writes the answer sheet of an apprentice's places.
-pub fn write_answer(apprentice: u32, places: &[CellPlace], out: &mut [u8]) -> Written
-    ensures told { result ≡ told (answer_refusal (placement apprentice places.now) (length out.old)) (answer_sheet (placement apprentice places.now)) }
+pub fn write_answer(apprentice: u32, places: &[CellPlace], out: &mut [u8]) -> Result<usize, Refusal>
+    ensures told { written_from result ≡ told (answer_refusal (placement apprentice places.now) (length out.old)) (answer_sheet (placement apprentice places.now)) }
     ensures written { out.new ≡ buffer_after (answer_refusal (placement apprentice places.now) (length out.old)) (answer_sheet (placement apprentice places.now)) out.old }
 {
-    let number = answer_refusal(apprentice, places, out.len());
-    if number != 0 {
-        return Written { number, length: 0 };
-    }
-    put_answer(out, apprentice, places);
-    Written {
-        number: 0,
-        length: ANSWER_HEADER + PLACE_SIZE * places.len(),
-    }
+    write(&Placement { apprentice, places }, out)
 }
 
-// Whether 72 refuses a version and a board's number.
-#[tactic(auto, unfolding(crate::specs::Boards::wrong_board))]
-fn is_wrong_board(version: u16, number: u16) -> bool
-    ensures { result ≡ wrong_board version number }
-{
-    let unknown = settings::is_unknown_version(version);
-    let first = version == 1;
-    let numbered = number != 0;
-    unknown | (first & numbered)
-}
-
-// The length of a settings sheet of this version and so many entries.
-fn settings_length(version: u16, total: usize) -> usize
-    requires { total ≤ 8 }
-    ensures { result ≡ head_of version + total }
+// How many bytes stand before the flags in a version.
+fn head_size(version: u16) -> usize
+    ensures { result ≡ head_of version }
 {
     if version == 2 {
-        return settings::BOARD_HEADER as usize + total;
-    }
-    settings::HEADER as usize + total
-}
-
-// The number that refuses a settings sheet, or 0.
-fn settings_refusal(version: u16, number: u16, entries: &[u8], room: usize) -> u8
-    ensures { result ≡ settings_refusal (board version number entries.now) room }
-{
-    if is_wrong_board(version, number) {
-        return 72;
-    }
-    if (settings::MAX_ENTRIES as usize) < entries.len() {
-        return 73;
-    }
-    if settings::has_other_flags(entries) {
-        return 75;
-    }
-    if room < settings_length(version, entries.len()) {
-        return 2;
-    }
-    0
-}
-
-// Stores the head of a settings sheet.
-#[tactic(auto, unfolding(crate::specs::passes::Put::mark_bytes))]
-fn put_settings_head(to: &mut [u8], version: u16, number: u16, total: u8)
-    requires { head_of version ≤ length to.old }
-    ensures { to.new ≡ sets to.old 0 (settings_head version number total) }
-{
-    put_mark(to, b'T', version);
-    to[settings::COUNT_AT] = total;
-    if version == 2 {
-        put_u16(to, settings::BOARD_AT, number);
+        usize::from(settings::BOARD_HEADER)
+    } else {
+        usize::from(settings::HEADER)
     }
 }
 
-// Stores the flags of all entries.
-fn put_entries(to: &mut [u8], at: usize, entries: &[u8])
-    requires { at + length entries.now ≤ length to.old }
-    ensures { to.new ≡ sets to.old at entries.now }
-{
-    let mut i: usize = 0;
-    while i < entries.len() {
-        to[at + i] = entries[i];
-        i += 1;
+// A settings sheet's version, its board's number, and the flags of its entries.
+#[derive(Clone, Copy)]
+struct Board<'a> {
+    version: u16,
+    number: u16,
+    entries: &'a [u8],
+}
+
+impl Board<'_> {
+    // Whether 72 refuses the version or the number.
+    #[tactic(auto, unfolding(crate::specs::Boards::wrong_board))]
+    fn is_wrong(&self) -> bool
+        ensures { result ≡ wrong_board self.now.version self.now.number }
+    {
+        settings::is_unknown_version(self.version) || self.version == 1 && self.number != 0
+    }
+
+    #[tactic(auto, unfolding(crate::specs::Boards::settings_head, crate::specs::passes::Put::mark_bytes))]
+    fn put_head(&self, to: &mut [u8])
+        requires { (head_of self.now.version ≤ length to.old) × (length self.now.entries.now ≤ 8) }
+        ensures { to.new ≡ sets to.old 0 (settings_head self.now.version self.now.number (length self.now.entries.now)) }
+    {
+        put_mark(to, b'T', self.version);
+        to[settings::COUNT_AT] = self.entries.len() as u8;
+        if self.version == 2 {
+            self.number.put(to, settings::BOARD_AT);
+        }
+    }
+
+    // Stores the sheet. Its length.
+    #[tactic(auto, using(crate::proofs::Putting::then_put, crate::proofs::Sheets::settings_head_size), unfolding(crate::specs::Boards::settings_sheet))]
+    fn put_sheet(&self, to: &mut [u8]) -> usize
+        requires { (head_of self.now.version + length self.now.entries.now ≤ length to.old) × (length self.now.entries.now ≤ 8) }
+        ensures size { result ≡ head_of self.now.version + length self.now.entries.now }
+        ensures stored { to.new ≡ sets to.old 0 (settings_sheet (board self.now.version self.now.number self.now.entries.now)) }
+    {
+        self.put_head(to);
+        let head = head_size(self.version);
+        put_bytes(to, head, self.entries);
+        head + self.entries.len()
     }
 }
 
-// Stores a settings sheet.
-#[tactic(auto, unfolding(crate::specs::Boards::settings_sheet))]
-fn put_settings(to: &mut [u8], version: u16, number: u16, entries: &[u8])
-    requires { (head_of version + length entries.now ≤ length to.old) × (length entries.now ≤ 8) }
-    ensures { to.new ≡ sets to.old 0 (settings_sheet (board version number entries.now)) }
-{
-    put_settings_head(to, version, number, entries.len() as u8);
-    put_entries(to, settings_length(version, 0), entries);
+impl Format for Board<'_> {
+    ghost refusal = { λ x room. settings_refusal (board x.version x.number x.entries.now) room };
+
+    ghost sheet = { λ x. settings_sheet (board x.version x.number x.entries.now) };
+
+    #[tactic(auto, unfolding(crate::specs::Boards::settings_refusal))]
+    fn check(&self, room: usize) -> Result<(), Refusal> {
+        if self.is_wrong() {
+            return Err(Refusal::SettingsVersion);
+        }
+        if usize::from(settings::MAX_ENTRIES) < self.entries.len() {
+            return Err(Refusal::TooManyEntries);
+        }
+        if settings::has_other_flags(self.entries) {
+            return Err(Refusal::OtherFlags);
+        }
+        if room < head_size(self.version) + self.entries.len() {
+            return Err(Refusal::SheetBufferLength);
+        }
+        Ok(())
+    }
+
+    #[tactic(auto, using(crate::proofs::Outcome::settings_fit, crate::proofs::Sheets::settings_length, crate::proofs::Putting::front_stored))]
+    fn put(&self, to: &mut [u8]) -> usize {
+        self.put_sheet(to)
+    }
 }
 
 // Writes the settings sheet of a board's version, number and entries.
-pub fn write_settings(version: u16, number: u16, entries: &[u8], out: &mut [u8]) -> Written
-    ensures told { result ≡ told (settings_refusal (board version number entries.now) (length out.old)) (settings_sheet (board version number entries.now)) }
+pub fn write_settings(
+    version: u16,
+    number: u16,
+    entries: &[u8],
+    out: &mut [u8],
+) -> Result<usize, Refusal>
+    ensures told { written_from result ≡ told (settings_refusal (board version number entries.now) (length out.old)) (settings_sheet (board version number entries.now)) }
     ensures written { out.new ≡ buffer_after (settings_refusal (board version number entries.now) (length out.old)) (settings_sheet (board version number entries.now)) out.old }
 {
-    let refusal = settings_refusal(version, number, entries, out.len());
-    if refusal != 0 {
-        return Written {
-            number: refusal,
-            length: 0,
-        };
-    }
-    put_settings(out, version, number, entries);
-    Written {
-        number: 0,
-        length: settings_length(version, entries.len()),
-    }
+    let board = Board {
+        version,
+        number,
+        entries,
+    };
+    write(&board, out)
 }

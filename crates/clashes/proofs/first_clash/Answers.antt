@@ -1,24 +1,13 @@
--- Both loops scan: the outer one for the first cell whose place is taken, the inner one for a lower cell there.
-use Rattle.sheet.proofs.Scan.{scan, scans}
-use Rattle.placing.specs.Places.{place_taken}
+-- The outer loop has met no clash before cell i, the inner one none of cell i with the cells before j.
+use mathlib.Core.Path.{◌∙◌}
+use Rattle.clashes.proofs.Pairs.{clash_found, none_found}
 use Rattle.clashes.proofs.first_clash.Goals as goal
+use Rattle.clashes.proofs.first_clash.Goals.{else-cells-test, then-cells-test+then-loop-j-test+then-clash}
 
-pub loop-j-preserved : goal.loop-j-preserved
-unfolding place_taken
-loop-j-preserved c =
-    search scan
-
-pub places-preserved : goal.places-preserved
-unfolding place_taken
-places-preserved c =
-    search scans
-
-pub returns-after-places : goal.returns-after-places
-unfolding place_taken
-returns-after-places c =
-    search scans
-
-pub returns-then-same_place : goal.returns-then-same_place
-unfolding place_taken
-returns-then-same_place c =
-    search scans
+pub returns : goal.returns
+returns g c =
+    elim c.cells-test.branch [
+      | else-cells-test w ↦ none_found _ _ _ c.cells.i c.cells.invariant.1 w.cells-test.false _ (w.found-is ∙ c.cells.invariant.0)
+      | then-cells-test+then-loop-j-test+then-clash w ↦
+          clash_found _ _ _ c.cells.i c.cells.invariant.1 c.cells.auto.i w.cells-test.true w.loop-j.j w.loop-j-test.true _ w.clash.ensures w.if-clash.true _ w.found-is
+    ]

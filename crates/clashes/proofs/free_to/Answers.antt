@@ -4,4 +4,5 @@ use Rattle.clashes.proofs.free_to.Goals as goal
 
 pub loop-i-preserved : goal.loop-i-preserved
 loop-i-preserved c =
-    search mark_goes
+    let key = rw c.from.ensures at c.from-key.ensures in
+    rw key (mark_goes _ _ c.requires _ _ c.loop-i.invariant c.loop-i-test.true (rw key at c.if-marks-key.false))

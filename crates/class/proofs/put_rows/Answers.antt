@@ -9,4 +9,4 @@ loop-i-init c =
 pub loop-i-preserved : goal.loop-i-preserved
 loop-i-preserved c =
     let n = c.end_of-at.ensures in
-    store_goes _ _ _ _ _ _ _ _ _ _ c.loop-i.invariant _ _ _ _ c.loop-i-test.true c.answer_at-answer.ensures c.row_of.ensures c.put_row.ensures n.end n.most
+    store_goes _ _ _ _ _ _ _ _ _ _ c.loop-i.invariant _ _ _ _ c.loop-i-test.true c.answer_at-answer.ensures c.row_of.ensures (rw c.from.ensures at c.put.ensures) n.end n.most

@@ -13,4 +13,4 @@ loop-i-preserved c =
 
 pub returns : goal.returns
 returns c =
-    lengths_told _ _ _ _ c.loop-i.invariant c.loop-i-test.false c.answer_count-count.ensures
+    lengths_told _ _ _ _ c.loop-i.invariant c.loop-i-test.false c.answer_count-i-end.ensures

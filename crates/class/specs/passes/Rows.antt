@@ -1,9 +1,9 @@
 -- The row of an answer from what was prepared for its exercise. Assumes nothing.
 use Rattle.std.specs.Prelude.{ℕ, List, [], ◌∷◌}
 use Rattle.entries.specs.Table.{Table}
-use Rattle.judge.specs.declared.Prepared.{Prepared}
 use Rattle.verdict.specs.declared.Finding.{Finding}
 use Rattle.verdict.specs.Verdicts.{apprentice_of}
+use Rattle.judge.specs.declared.Prepared.{Prepared}
 use Rattle.judge.specs.passes.Preparing.{found_from}
 
 -- number, cell, LAB and apprentice of what is found in the answer `a`

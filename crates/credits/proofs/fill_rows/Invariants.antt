@@ -1,11 +1,6 @@
--- The loop's invariant: the entries of the keys before i are tallied, and their rows stored.
-use Prim.Native.Nat.{◌-◌}
-use lib.ListN.{length}
+-- The loop's invariant: the entries of the keys so far are tallied, and their rows stored.
 use Rattle.credits.proofs.Walks.{Filled}
 use Rattle.credits.proofs.fill_rows.Given as goal
 
-abbrev pub invariant-loop-i : goal.invariant-loop-i
-invariant-loop-i l = Filled l.log l.keys l.initial.rows l.rows l.i l.t
-
-abbrev pub decreases-loop-i : goal.decreases-loop-i
-decreases-loop-i l = length l.keys - l.i
+abbrev pub invariant-loop-key : goal.invariant-loop-key
+invariant-loop-key l = Filled l.log l.keys l.initial.rows l.rows l.key-index l.last

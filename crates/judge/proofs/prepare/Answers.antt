@@ -1,27 +1,32 @@
 -- Where something is found before the answer, it is found by all checks that no answer changes too; otherwise the cells are asked.
 use mathlib.Core.Path.{sym, ap, ◌∙◌}
-use Rattle.verdict.specs.declared.Finding.{Finding}
+use Rattle.judge.proofs.Outcomes.{number_in, is_err_finds, not_err_finds}
 use Rattle.judge.proofs.Preparing.{passed_exercise, prepare_stays, prepare_goes}
 use Rattle.judge.proofs.prepare.Goals as goal
 
-pub returns-then-early-ne0-clause-made : goal.returns-then-early-ne0-clause-made
-returns-then-early-ne0-clause-made c =
-    (prepare_stays c.args.settings.now c.args.exercise.now _ c.early_finding-early.ensures c.if-early-ne0.true).0
+pub returns-then-is_err-clause-made : goal.returns-then-is_err-clause-made
+returns-then-is_err-clause-made c =
+    (prepare_stays c.args.settings.now c.args.exercise.now _ (c.of-early.ensures ∙ c.check_early-outcome.ensures)
+    (λ z. is_err_finds c.check_early-outcome.result (sym c.is_err.ensures.value ∙ c.if-is_err.true) (ap number_in (sym c.of-early.ensures) ∙ z))).0
 
-pub returns-then-early-ne0-clause-filled : goal.returns-then-early-ne0-clause-filled
-returns-then-early-ne0-clause-filled c =
-    (prepare_stays c.args.settings.now c.args.exercise.now _ c.early_finding-early.ensures c.if-early-ne0.true).1
+pub returns-then-is_err-clause-filled : goal.returns-then-is_err-clause-filled
+returns-then-is_err-clause-filled c =
+    (prepare_stays c.args.settings.now c.args.exercise.now _ (c.of-early.ensures ∙ c.check_early-outcome.ensures)
+    (λ z. is_err_finds c.check_early-outcome.result (sym c.is_err.ensures.value ∙ c.if-is_err.true) (ap number_in (sym c.of-early.ensures) ∙ z))).1
 
-pub cells_finding-fixed-requires-clause-passed : goal.cells_finding-fixed-requires-clause-passed
-cells_finding-fixed-requires-clause-passed c =
-    passed_exercise c.args.settings.now c.args.exercise.now (ap (λ (k : Finding). k.number) (sym c.early_finding-early.ensures) ∙ c.if-early-ne0.false)
+pub check_cells-requires-clause-passed : goal.check_cells-requires-clause-passed
+check_cells-requires-clause-passed c =
+    passed_exercise c.args.settings.now c.args.exercise.now
+    (ap number_in (sym c.check_early-outcome.ensures) ∙ not_err_finds c.check_early-outcome.result (sym c.is_err.ensures.value ∙ c.if-is_err.false))
 
 pub returns-clause-made : goal.returns-clause-made
 returns-clause-made c =
-    (prepare_goes c.args.settings.now c.args.exercise.now _ c.early_finding-early.ensures _ _ c.if-early-ne0.false
-    c.cells_finding-fixed.ensures.found c.cells_finding-fixed.ensures.filled).0
+    (prepare_goes c.args.settings.now c.args.exercise.now _ (c.of-early.ensures ∙ c.check_early-outcome.ensures) _ _
+    (ap number_in c.of-early.ensures ∙ not_err_finds c.check_early-outcome.result (sym c.is_err.ensures.value ∙ c.if-is_err.false))
+    (c.of-fixed.ensures ∙ c.check_cells.ensures.found) c.check_cells.ensures.filled).0
 
 pub returns-clause-filled : goal.returns-clause-filled
 returns-clause-filled c =
-    (prepare_goes c.args.settings.now c.args.exercise.now _ c.early_finding-early.ensures _ _ c.if-early-ne0.false
-    c.cells_finding-fixed.ensures.found c.cells_finding-fixed.ensures.filled).1
+    (prepare_goes c.args.settings.now c.args.exercise.now _ (c.of-early.ensures ∙ c.check_early-outcome.ensures) _ _
+    (ap number_in c.of-early.ensures ∙ not_err_finds c.check_early-outcome.result (sym c.is_err.ensures.value ∙ c.if-is_err.false))
+    (c.of-fixed.ensures ∙ c.check_cells.ensures.found) c.check_cells.ensures.filled).1

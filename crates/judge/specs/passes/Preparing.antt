@@ -1,6 +1,6 @@
 -- What is made once for a settings sheet and an exercise, and what a judgement finds from it: `t` is the entry table, `p` what was made, `ds` the table of
 -- drivers, `s` the settings, `e` the exercise, `a` the answer. Assumes nothing.
-use Rattle.std.specs.Prelude.{ℕ, cond, List, ◌++◌, replicate, eqb}
+use Rattle.std.specs.Prelude.{ℕ, cond, List, ◌++◌, replicate, eqb, Result, Ok, Err}
 use Rattle.sheet.specs.Checks.{NONE}
 use Rattle.exercise.specs.Exercise.{cell_count}
 use Rattle.exercise.specs.passes.Known.{known_at}
@@ -11,7 +11,13 @@ use Rattle.lab_pass.specs.passes.Results.{result_at, tries_at, lowest_broken, ha
 use Rattle.verdict.specs.declared.Finding.{Finding}
 use Rattle.judge.specs.declared.Prepared.{Prepared}
 use Rattle.judge.specs.Judge.{settings_group, exercise_group, answer_group, cell_group, first_broken}
+use Rattle.verdict.specs.Verdicts.{legal}
 use Rattle.judge.specs.passes.Stages.{numbered_lab, placed_by}
+
+-- what an outcome finds whose error is a finding
+abbrev pub finding_in : {A : Type 0} → Result A Finding → Finding
+finding_in (Ok x) = legal
+finding_in (Err f) = f
 
 -- one finding, and the next one where it is nothing
 abbrev pub then : Finding → Finding → Finding

@@ -1,5 +1,6 @@
 -- What the judge's stages answer from the tables that they are given. Assumes nothing.
-use Rattle.std.specs.Prelude.{ℕ, cond, not, List, eqb, ltb}
+use Rattle.std.specs.Prelude.{ℕ, cond, not, List, Option, Some, None, eqb, ltb}
+use Rattle.sheet.specs.declared.CellNumber.{CellNumber}
 use Rattle.sheet.specs.Lists.{first_from}
 use Rattle.exercise.specs.declared.Record.{Record}
 use Rattle.placing.specs.Places.{place_taken}
@@ -21,6 +22,11 @@ numbered = numbered_as (λ number i. finding number i NONE)
 
 abbrev pub numbered_lab : (ℕ → ℕ) → Finding
 numbered_lab g = numbered_as (λ number l. finding number NONE l) g 1024
+
+-- what a run over the cells finds that has found one, or none
+abbrev pub cell_finding : ℕ → Option CellNumber → Finding
+cell_finding number None = legal
+cell_finding number (Some i) = finding number i.0 NONE
 
 -- what a run over n cells finds that stops at i
 abbrev pub at_cell : ℕ → ℕ → ℕ → Finding

@@ -2,6 +2,6 @@
 use Rattle.lab_pass.proofs.Same.{same_search}
 use Rattle.lab_pass.proofs.solve.Goals as goal
 
-pub returns-then-same_counted : goal.returns-then-same_counted
-returns-then-same_counted c =
-    same_search _ _ _ _ c.same_counted.ensures c.if-same_counted.true c.requires
+pub returns-then-eq : goal.returns-then-eq
+returns-then-eq c =
+    same_search _ _ _ _ c.eq.ensures c.if-eq.true c.requires

@@ -1,21 +1,20 @@
 -- The result and the tries of each LAB from the lists of cells, the rows of route bytes and the list of tries. `t` is the entry table, `cell` gives what each
 -- cell's record says. Assumes nothing.
-use Rattle.std.specs.Prelude.{ℕ, zero, suc, ◌+◌, ◌*◌, ◌≡◌, Bool, cond, not, ◌&&◌, List, map, length, get_or, set, eqb, ltb}
+use Rattle.std.specs.Prelude.{ℕ, zero, suc, ◌+◌, ◌*◌, ◌≡◌, ◌<◌, Bool, false, cond, not, List, Result, Ok, Err, map, length, get_or, set, eqb, ltb}
+use lib.Seq.{sets}
 use Rattle.sheet.specs.Lists.{first_from}
 use Rattle.exercise.specs.declared.Record.{Record}
 use Rattle.distinct.specs.declared.LabMarks.{LabMarks}
 use Rattle.distinct.specs.passes.Marks.{Marking}
 use Rattle.entries.specs.Table.{Table}
 use Rattle.lab_nets.specs.passes.Uses.{mark_cells, nets_within}
-use Rattle.lab_rules.specs.passes.Counts.{no_counts, counts_all, searched}
-use Rattle.lab_rules.specs.declared.LabResult.{LabResult}
-use Rattle.lab_rules.specs.declared.LabSearch.{LabSearch}
+use Rattle.lab_rules.specs.passes.Counts.{no_counts, counts_all, LabSearch, searched}
+use Rattle.lab_rules.specs.Rules.{LabResult}
 use Rattle.lab_rules.specs.declared.Counts.{Counts}
-use Rattle.distinct.specs.passes.UpToTwo.{same_codes}
 use Rattle.sheet.specs.Checks.{NONE}
 use Rattle.lab_pass.specs.passes.Links.{walk}
-use Rattle.lab_pass.specs.declared.LowestBroken.{LowestBroken}
-use Rattle.lab_pass.specs.declared.Counted.{Counted}
+use Rattle.sheet.specs.Refusals.{number_of}
+use Rattle.lab_pass.specs.declared.BrokenLab.{BrokenLab}
 
 -- the result and the tries of a LAB with these cells, handed over one by one
 unfoldable pub search_of : Table → (ℕ → Record) → List ℕ → LabSearch
@@ -34,15 +33,6 @@ marked_if b l m cs = cond b (mark_cells l m cs) m
 pub record Tells (cell : ℕ → Record) (is : List ℕ) (k : Counts) (nets : ℕ) : Type 0 where
   pub told : (t : Table) → searched t k nets ≡ search_of t cell is
 
--- all counters, and the nets in too, hold the same
-unfoldable pub same_counts : Counts → Counts → Bool
-same_counts a b =
-    same_codes a.clocks b.clocks && same_codes a.pairs b.pairs && same_codes a.clears b.clears
-    && same_codes a.synchronous b.synchronous && same_codes a.enables b.enables
-
-unfoldable pub same_counted : Counted → Counted → Bool
-same_counted a b = same_counts a.counts b.counts && eqb a.nets b.nets
-
 -- the result and the tries of LAB l
 unfoldable pub search_at : Table → (ℕ → Record) → List ℕ → List ℕ → ℕ → LabSearch
 search_at t cell first next l = search_of t cell (walk next (get_or first l NONE) 512)
@@ -58,6 +48,16 @@ unfoldable pub broken_lab : Table → (ℕ → Record) → List ℕ → List ℕ
 broken_lab t cell first next l = not (eqb (result_at t cell first next l).number 0)
 
 -- the lowest LAB that breaks one of 60 to 65 and the number, or 1,024 and 0
+pub record LowestBroken : Type 0 where
+  pub lab : ℕ
+  pub number : ℕ
+
+-- those that a call gives
+abbrev pub lowest_from : {A : Type 0} → Result A BrokenLab → LowestBroken
+lowest_from (Ok x) = record { lab = 1024; number = 0 }
+lowest_from (Err b) = record { lab = b.lab; number = number_of b.refusal }
+
+-- that of the LABs with these lists
 unfoldable pub lowest_broken : Table → (ℕ → Record) → List ℕ → List ℕ → LowestBroken
 lowest_broken t cell first next =
     let l = first_from (broken_lab t cell first next) 0 1024 in
@@ -67,12 +67,13 @@ lowest_broken t cell first next =
 unfoldable pub has_cells : List ℕ → List ℕ → ℕ → Bool
 has_cells first next l = ltb (get_or first l NONE) (length next)
 
+-- where b is false, a test holds for none of n numbers from l on
+pub record EmptyUnless (some : ℕ → Bool) (l n : ℕ) (b : Bool) : Type 0 where
+  pub empty : b ≡ false → (k : ℕ) → k < n → some (l + k) ≡ false
+
 -- the eight bytes b of LAB l, put into the rows: "8 bytes per LAB at 8 × LAB number"
 unfoldable pub put_row : List ℕ → ℕ → List ℕ → List ℕ
-put_row rows l b =
-    let at = 8 * l in
-    let half = set (set (set (set rows at (get_or b 0 0)) (at + 1) (get_or b 1 0)) (at + 2) (get_or b 2 0)) (at + 3) (get_or b 3 0) in
-    set (set (set (set half (at + 4) (get_or b 4 0)) (at + 5) (get_or b 5 0)) (at + 6) (get_or b 6 0)) (at + 7) (get_or b 7 0)
+put_row rows l b = sets rows (8 * l) b
 
 -- the bytes of those LABs below k that pass a test, put into the rows
 unfoldable pub put_rows : (ℕ → Bool) → (ℕ → List ℕ) → List ℕ → ℕ → List ℕ

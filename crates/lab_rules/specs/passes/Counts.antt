@@ -1,6 +1,7 @@
 -- What is kept of a LAB's cells while they are handed over one by one, and what follows from it. Assumes nothing.
-use Rattle.std.specs.Prelude.{ℕ, ◌/◌, ◌%◌, ◌<◌, ◌≡◌, true, cond, ◌&&◌, List, [], ◌∷◌, ◌++◌, map, replicate, eqb, ltb}
+use Rattle.std.specs.Prelude.{ℕ, ◌/◌, ◌%◌, ◌<◌, ◌≡◌, true, cond, ◌&&◌, List, [], ◌∷◌, ◌++◌, map, replicate, Result, eqb, ltb}
 use Rattle.sheet.specs.Lists.{filterb, Every, elemb}
+use Rattle.sheet.specs.declared.refusal.Refusal.{Refusal}
 use Rattle.sheet.specs.Checks.{check, first_number}
 use Rattle.sheet.specs.Signal.{connected, is_net}
 use Rattle.exercise.specs.Record.{outputs}
@@ -8,24 +9,23 @@ use Rattle.exercise.specs.declared.RegisterCell.{RegisterCell}
 use Rattle.exercise.specs.declared.Record.{Record}
 use Rattle.exercise.specs.declared.Record.TheVariants.{Register}
 use Rattle.distinct.specs.Rising.{rising}
-use Rattle.distinct.specs.passes.UpToTwo.{no_code, with_codes, up_to_two, codes_of}
+use Rattle.distinct.specs.passes.UpToTwo.{count_of, with_codes, up_to_two, codes_of}
 use Rattle.distinct.specs.declared.UpToTwo.{UpToTwo}
+use Rattle.distinct.specs.declared.UpToTwo.TheVariants.{Empty, One, Two, More}
 use Rattle.entries.specs.declared.Need.{Need}
-use Rattle.route.specs.declared.LabRoute.{LabRoute}
 use Rattle.entries.specs.declared.Needs.{Needs}
 use Rattle.entries.specs.Table.{with_need, Table, CLK, ENA, ACLR, SCLR, SLOAD}
 use Rattle.route.specs.Way.{earliest_way}
-use Rattle.route.specs.Route.{lab_route_of}
+use Rattle.route.specs.Route.{LabRoute, lab_route_of}
+use Rattle.route.specs.declared.Search.{Search}
 use Rattle.route.specs.Tries.{tries}
 use Rattle.lab_nets.specs.NetsIn.{inputs}
 use Rattle.lab_rules.specs.declared.Counts.{Counts}
-use Rattle.lab_rules.specs.declared.LabResult.{LabResult}
-use Rattle.lab_rules.specs.declared.LabSearch.{LabSearch}
 use Rattle.lab_rules.specs.Ports.{clk, ena, clock, clock_pair, clear, synchronous, needed, of_register, in_lab}
-use Rattle.lab_rules.specs.Rules.{MAX_NETS_IN, needs_of_role}
+use Rattle.lab_rules.specs.Rules.{MAX_NETS_IN, needs_of_role, LabResult, lab_result_from}
 
 abbrev pub no_counts : Counts
-no_counts = record { clocks = no_code; pairs = no_code; clears = no_code; synchronous = no_code; enables = no_code }
+no_counts = record { clocks = Empty; pairs = Empty; clears = Empty; synchronous = Empty; enables = Empty }
 
 -- one cell more
 unfoldable pub counts_with : Counts → Record → Counts
@@ -56,10 +56,10 @@ counts_of cs = record {
 unfoldable pub broken_by : Counts → ℕ → ℕ
 broken_by k nets =
     first_number
-    (check 60 (ltb 2 k.clocks.count)
-    ∷ check 61 (ltb 2 k.pairs.count)
-    ∷ check 62 (ltb 2 k.clears.count)
-    ∷ check 63 (ltb 1 k.synchronous.count)
+    (check 60 (ltb 2 (count_of k.clocks))
+    ∷ check 61 (ltb 2 (count_of k.pairs))
+    ∷ check 62 (ltb 2 (count_of k.clears))
+    ∷ check 63 (ltb 1 (count_of k.synchronous))
     ∷ check 64 (ltb MAX_NETS_IN nets)
     ∷ [])
 
@@ -69,7 +69,10 @@ net_codes codes = filterb (λ s. is_net s && ltb s 65536) codes
 
 -- the one code that a counter holds
 unfoldable pub only_code : UpToTwo → List ℕ
-only_code d = cond (eqb d.count 1) (d.low ∷ []) []
+only_code Empty = []
+only_code (One a) = a ∷ []
+only_code (Two a b) = []
+only_code More = []
 
 -- the codes of a pair
 abbrev pub first : ℕ → ℕ
@@ -107,6 +110,15 @@ result_from t k nets =
 -- the tries of a LAB from its counts and its number of nets: none where it breaks one of 60 to 64
 unfoldable pub tries_for : Table → Counts → ℕ → ℕ
 tries_for t k nets = cond (eqb (broken_by k nets) 0) (tries t (needs_held k)) 0
+
+-- a result, and the tries
+pub record LabSearch : Type 0 where
+  pub result : LabResult
+  pub tries : ℕ
+
+-- those that a call gives
+abbrev pub lab_search_from : Search (Result (List ℕ) Refusal) → LabSearch
+lab_search_from s = record { result = lab_result_from s.found; tries = s.tries }
 
 -- both
 unfoldable pub searched : Table → Counts → ℕ → LabSearch

@@ -1,15 +1,9 @@
--- The loop's invariant: what the records from i on add to what is kept is what all add to the beginning; and there are 1,024 marks.
-use Rattle.list_check.specs.passes.State.{Kept, kept, finished}
-use Rattle.list_check.proofs.Taken.{too_long, all_taken, Taking, taking_starts, taking_goes, taking_ends}
-use Prim.Native.Nat.{ℕ, ◌-◌}
-use mathlib.Core.Path.{◌≡◌, sym, ap, ◌∙◌}
-use borrow.Author.Tests.{lt-ltb, le-ltb}
-use lib.ListN.{length, length-replicate}
-use borrow.Author.Rules.{rules}
+-- The loop's invariant: the records taken are fit, and those that are left add to the counts and the marks what all add to none.
+use mathlib.Core.Path.{◌≡◌}
+use lib.ListN.{length}
+use Rattle.distinct.specs.passes.Marks.{marking}
+use Rattle.list_check.proofs.Taken.{Taken}
 use Rattle.list_check.proofs.check_list.Given as goal
 
-abbrev pub invariant-loop-i : goal.invariant-loop-i
-invariant-loop-i l = Taking l.cells (kept l.state l.marks) l.i × (length l.marks ≡ 1024)
-
-abbrev pub decreases-loop-i : goal.decreases-loop-i
-decreases-loop-i l = length l.cells - l.i
+abbrev pub invariant-loop-cell : goal.invariant-loop-cell
+invariant-loop-cell l = Taken l.cells l.counts (marking l.marks l.nets) l.cell-index × (length l.marks ≡ 1024)

@@ -1,17 +1,17 @@
 -- How the lines of the LABs are found in the route buffer: a mark for each LAB that has a cell, and eight bytes for each LAB. Assumes nothing.
-use Rattle.std.specs.Prelude.{ℕ, zero, suc, ◌+◌, ◌*◌, Bool, cond, List, [], ◌∷◌, eqb, set}
-use Rattle.sheet.specs.Lists.{concat_map, filterb, from}
+use Rattle.std.specs.Prelude.{ℕ, zero, suc, ◌+◌, ◌*◌, Bool, true, false, cond, List, [], ◌∷◌, replicate, get_or, set}
+use Rattle.sheet.specs.Lists.{concat_map, below}
 use Rattle.sheet.specs.Bytes.{byte_at}
 use Rattle.placing.specs.Places.{lab_at}
 use Rattle.listing.specs.Listing.{lab_line}
 
--- the marks after the k cells from i on have marked their LABs with 1
-unfoldable pub marked_from : List ℕ → List ℕ → ℕ → ℕ → List ℕ
-marked_from a marks i zero = marks
-marked_from a marks i (suc k) = marked_from a (set marks (lab_at a i) 1) (suc i) k
+-- the marks that the first n cells make
+unfoldable pub marks_of : List ℕ → ℕ → List Bool
+marks_of a zero = replicate 1024 false
+marks_of a (suc n) = set (marks_of a n) (lab_at a n) true
 
-abbrev pub is_marked : List ℕ → ℕ → Bool
-is_marked marks l = eqb (byte_at marks l) 1
+abbrev pub is_marked : List Bool → ℕ → Bool
+is_marked marks l = get_or marks l false
 
 -- "8 bytes per LAB at 8 × LAB number"
 unfoldable pub row_at : List ℕ → ℕ → List ℕ
@@ -28,9 +28,9 @@ row_at route l =
     ∷ []
 
 -- the line of LAB l where it is marked
-unfoldable pub line_at : List ℕ → List ℕ → ℕ → List ℕ
+unfoldable pub line_at : List Bool → List ℕ → ℕ → List ℕ
 line_at marks route l = cond (is_marked marks l) (lab_line l (row_at route l)) []
 
--- the lines of the marked LABs among the k from l on, rising
-unfoldable pub lines_from : List ℕ → List ℕ → ℕ → ℕ → List ℕ
-lines_from marks route l k = concat_map (λ j. lab_line j (row_at route j)) (filterb (λ j. is_marked marks j) (from l k))
+-- the lines of the marked LABs below n, rising
+unfoldable pub lines_below : List Bool → List ℕ → ℕ → List ℕ
+lines_below marks route n = concat_map (line_at marks route) (below n)

@@ -1,11 +1,7 @@
 -- A scan of the cells, each tested by what its record says.
-use Prim.Native.Nat.{◌-◌}
 use Rattle.sheet.proofs.Scan.{Scanned}
 use Rattle.tables.specs.passes.Tables.{malformed_at}
 use Rattle.tables.proofs.first_malformed.Given as goal
 
 abbrev pub invariant-loop-i : goal.invariant-loop-i
 invariant-loop-i l = Scanned (malformed_at l.nets l.exercise) l.cells l.i
-
-abbrev pub decreases-loop-i : goal.decreases-loop-i
-decreases-loop-i l = l.cells - l.i

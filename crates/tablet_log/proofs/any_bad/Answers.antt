@@ -1,20 +1,18 @@
--- A scan over the entries: it found one that is bad, or it came to the end.
-use mathlib.Core.Path.{sym}
+-- Whether the test holds at one of the entries' numbers.
+use mathlib.Core.Path.{ap, ◌∙◌}
+use native.Mathlib.Omega.{arith}
+use Rattle.std.proofs.Common.{rules}
+use Rattle.std.proofs.lemmas.Iterator.{YieldsList-from_range}
+use Rattle.std.proofs.lemmas.Iterator.Search.{any_from_yields_List}
+use Rattle.sheet.specs.Lists.{anyb}
+use Rattle.tablet_log.specs.Log.{bad_at, entry_count}
 use Rattle.tablet_log.specs.Credited.{any_bad}
-use Rattle.sheet.proofs.Scan.{scan, some_found, none_found}
+use Rattle.tablet_log.proofs.Listing.{range_below}
 use Rattle.tablet_log.proofs.any_bad.Goals as goal
 
-pub returns-then-bad_at : goal.returns-then-bad_at
-unfolding any_bad
-returns-then-bad_at c =
-    let l = c.loop-i in
-    rw (← c.entry_count-count.ensures) (sym (some_found _ _ l.i _ l.invariant c.loop-i-test.true c.bad_at.ensures c.if-bad_at.true))
-
-pub loop-i-preserved : goal.loop-i-preserved
-loop-i-preserved c =
-    search scan
-
 pub returns : goal.returns
-unfolding any_bad
+unfolding any_bad bad_at
 returns c =
-    rw (← c.entry_count-count.ensures) (sym (none_found _ _ _ c.loop-i.invariant c.loop-i-test.false))
+    let l = c.args.log.now in
+    let n = entry_count l in
+    any_from_yields_List (bad_at l) _ _ _ c.any.ensures.ran (YieldsList-from_range 0 n n (search rules) (omega arith)) (λ x b q k. search rules) ∙ ap (anyb (bad_at l)) (range_below n)

@@ -1,8 +1,0 @@
--- The tables hold what the pass put there, so the finding is that of 30 to 44.
-use Rattle.judge.proofs.Preparing.{cells_found}
-use Rattle.judge.proofs.cells_finding.Goals as goal
-
-pub returns-clause-found : goal.returns-clause-found
-returns-clause-found c =
-    (cells_found c.args.exercise.now _ _ _ _ _ _ c.requires.passed c.requires.blank c.cell_count-cells.ensures
-    c.fill_tables.ensures.counted c.fill_tables.ensures.read c.fill_tables.ensures.driven c.cell_finding.ensures).0
