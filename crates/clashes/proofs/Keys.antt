@@ -1,23 +1,24 @@
 -- Two cells that have keys stand at one place exactly where their keys are equal, and each marks its key. So the scan over keys finds what the scan
 -- over places finds, and no cell clashes before the first that meets its mark. Assumes nothing.
 use Prim.Native.Nat.{ℕ, ◌+◌, ◌<◌, ◌≤◌}
+use native.Mathlib.Numerals.{add-one}
 use native.Mathlib.Omega.{arith}
 use mathlib.Core.Path.{◌≡◌, refl, sym, ◌∙◌}
-use mathlib.Core.Bool.{Bool, true, false, ◌||◌, ◌&&◌, true≢false}
+use mathlib.Core.Bool.{Bool, true, false, not, ◌||◌, ◌&&◌, true≢false}
 use mathlib.Core.List.{List}
 use lib.ListN.{length, get_or, set, replicate, length-set, length-replicate}
 use lib.Seq.{get_or-set_same, get_or-set_other}
 use lib.Dec.{eqb, ltb}
 use borrow.Author.Count.{below_more}
-use borrow.Author.Tests.{ltb-true, ltb-false, le-ltb, eqb-true, eqb-false, eq-eqb, ne_eqb}
+use borrow.Author.Tests.{ltb-true, ltb-false, lt-ltb, le-ltb, eqb-true, eqb-false, eq-eqb, ne_eqb}
 use Rattle.sheet.specs.Lists.{first_from}
 use Rattle.sheet.proofs.Laws.{by_test, and_parts}
-use Rattle.sheet.proofs.First.{none_first}
+use Rattle.sheet.proofs.First.{none_first, first_is}
 use Rattle.std.specs.Prelude.{Option, Some, None}
 use Rattle.sheet.proofs.Scan.{any_below, none_at}
 use Rattle.placing.specs.Places.{kind_at, x_at, y_at, le_at, lab_at, same_place}
 use Rattle.clashes.proofs.Pairs.{clashes, clashes_none}
-use Rattle.clashes.specs.passes.Keys.{key, has_key, key_of, key_taken, Keyed, KeysOf, FreeTo}
+use Rattle.clashes.specs.passes.Keys.{key, has_key, key_of, put_keys, key_taken, Keyed, KeysOf, FreeTo}
 
 -- ---- keys
 one_or_two : (k : ℕ) → eqb k 1 || eqb k 2 ≡ true → (1 ≤ k) × (k ≤ 2)
@@ -49,6 +50,10 @@ module _ (e a : List ℕ) where
   pub given_key : (i k : ℕ) → key_of e a i ≡ Some k → (has_key e a i ≡ true) × (k ≡ key e a i)
   unfolding key_of
   given_key i k h = by_test (has_key e a i) (λ t. (t, let q : Some (key e a i) ≡ Some k = rw t at h in cc)) (λ t. let q : ◌≡◌ {A = Option ℕ} None (Some k) = rw t at h in cc)
+
+  no_key : (i : ℕ) → ((k : ℕ) → key_of e a i ≡ Some k → ⊥) → has_key e a i ≡ false
+  unfolding key_of
+  no_key i h = by_test (has_key e a i) (λ t. absurd (h (key e a i) (rw t))) (λ t. t)
 
   place_key : (j i : ℕ) → same_place e a j i ≡ true → key e a j ≡ key e a i
   unfolding key lab_at same_place
@@ -93,6 +98,34 @@ module _ (e a : List ℕ) where
               (λ i b. get_or-set_other keys n i k 0 (λ q. omega arith) ∙ s.stands i b)
               (get_or-set_same keys n k 0 h ∙ g.1);
         }
+
+    -- the keys of the cells so far are put into the table
+    pub put_goes : (lent : List ℕ) (k : ℕ) → key_of e a n ≡ Some k → keys ≡ put_keys e a lent n → set keys n k ≡ put_keys e a lent (n + 1)
+    unfolding put_keys
+    put_goes lent k q p = rw (p, (given_key n k q).1, add-one)
+
+    first_without : (m : ℕ) → n < m → ((k : ℕ) → key_of e a n ≡ Some k → ⊥) → first_from (λ i. not (has_key e a i)) 0 m ≡ n
+    first_without m h q = first_is (λ i. not (has_key e a i)) m 0 n (omega arith) (omega arith) (λ j l b. rw (s.has j b)) (rw (no_key n q))
+
+    none_without : first_from (λ i. not (has_key e a i)) 0 n ≡ n
+    none_without = none_first (λ i. not (has_key e a i)) n (λ m l. rw (s.has m l))
+
+    pub put_stops : (lent : List ℕ) (m : ℕ) → n < m → ((k : ℕ) → key_of e a n ≡ Some k → ⊥) → keys ≡ put_keys e a lent n
+        → keys ≡ put_keys e a lent (first_from (λ i. not (has_key e a i)) 0 m)
+    put_stops lent m h q p = rw (first_without m h q) p
+
+    pub put_ends : (lent : List ℕ) → keys ≡ put_keys e a lent n → keys ≡ put_keys e a lent (first_from (λ i. not (has_key e a i)) 0 n)
+    put_ends lent p = rw none_without p
+
+    -- a cell that has none is the first without
+    pub keys_stop : (m : ℕ) → n < m → ((k : ℕ) → key_of e a n ≡ Some k → ⊥) → false ≡ not (ltb (first_from (λ i. not (has_key e a i)) 0 m) m)
+    keys_stop m h q =
+        rw (first_without m h q, lt-ltb n m h)
+
+    -- and where the pass comes to the end, each has one
+    pub keys_found : true ≡ not (ltb (first_from (λ i. not (has_key e a i)) 0 n) n)
+    keys_found =
+        rw (none_without, le-ltb n n (omega arith))
 
     has_room : n ≤ 512
     has_room = by_test (ltb 512 n) (λ t. let low = (keyed_cell 512 (s.has 512 (ltb-true 512 n t))).0 in absurd (omega arith)) (λ t. ltb-false 512 n t)

@@ -1,9 +1,9 @@
 #![tactic(auto)]
 
-ghost use Rattle.std.specs.Prelude.{◌≡◌, ◌<◌, Bool, false, true, MatchOption, IsTrue};
-ghost use Rattle.sheet.specs.Lists.{first_cell};
+ghost use Rattle.std.specs.Prelude.{◌≡◌, ◌<◌, Bool, false, true, not, ltb, MatchOption, IsTrue};
+ghost use Rattle.sheet.specs.Lists.{first_from, first_cell};
 ghost use Rattle.placing.specs.Places.{kind_at, same_place, place_taken};
-ghost use Rattle.clashes.specs.passes.Keys.{key_of, key_taken, Keyed, KeysOf, FreeTo, Apart, Clash};
+ghost use Rattle.clashes.specs.passes.Keys.{has_key, key_of, put_keys, key_taken, Keyed, KeysOf, FreeTo, Apart, Clash};
 
 use sheet::CellNumber;
 
@@ -78,9 +78,11 @@ fn key_of(exercise: &[u8], answer: &[u8], i: CellNumber) -> Option<u16>
 }
 
 // Puts the cells' keys into a table. Whether every cell has one: where one has none, the table is of no use.
-#[tactic(auto, using(crate::proofs::Keys::keyed_at, crate::proofs::Keys::keys_goes))]
+#[tactic(auto, using(crate::proofs::Keys::keyed_at, crate::proofs::Keys::keys_goes, crate::proofs::Keys::keys_found, crate::proofs::Keys::put_goes, crate::proofs::Keys::put_ends), unfolding(crate::specs::passes::Keys::put_keys))]
 fn fill_keys(exercise: &[u8], answer: &[u8], cells: u16, keys: &mut [u16; 512]) -> bool
-    ensures { IsTrue result → KeysOf exercise.now answer.now keys.new cells }
+    ensures found { result ≡ not (ltb (first_from (λ i. not (has_key exercise.now answer.now i)) 0 cells) cells) }
+    ensures filled { keys.new ≡ put_keys exercise.now answer.now keys.old (first_from (λ i. not (has_key exercise.now answer.now i)) 0 cells) }
+    ensures told { IsTrue result → KeysOf exercise.now answer.now keys.new cells }
 {
     for i in 0..cells {
         let Some(key) = key_of(exercise, answer, CellNumber(i)) else {

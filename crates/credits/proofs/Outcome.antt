@@ -23,6 +23,7 @@ use Rattle.tablet_log.proofs.Order.{order_apprentices, order_rows}
 use Rattle.credits.specs.passes.Keys.{entry_of, keys_of}
 use Rattle.std.specs.Prelude.{None}
 use Rattle.credits.specs.passes.Rows.{rows_begun, row_after, rows_by}
+use Rattle.sorting.specs.Sorted.{sorted}
 use Rattle.credits.proofs.Tallied.{tallied}
 use Rattle.credits.proofs.Ordered.{ordered, ordered_in_order, ordered_order}
 
@@ -116,3 +117,8 @@ module _ (l : List ℕ) (rows : List (List ℕ)) (numbers : List ℕ) where
               minutes = rw legal (rows_filled rows' a f);
               listed = rw legal (t ∙ rw b (sets_front numbers (listed_of l) numbers_fit));
             }
+
+      -- a log without entries has no keys, and both lists stay
+      pub none_filled : 0 ≡ entry_count l → Outcome l rows numbers (record { number = 0; rows = 0; entries = 0 }) rows numbers
+      unfolding keys_of sorted rows_by rows_begun row_after empty_below
+      none_filled z = lists_filled 0 [] z refl 0 refl rows numbers 0 0 (omega arith) refl z refl refl

@@ -143,6 +143,13 @@ pub fn minutes(log: &[u8], rows: &mut [Credit], numbers: &mut [u16]) -> Result<F
     }
     tablet_log::check_log(log)?;
     let count = tablet_log::entry_count(log);
+    // No tables are laid out for a log without entries.
+    if count == 0 {
+        return Ok(Filled {
+            rows: 0,
+            entries: 0,
+        });
+    }
     let mut keys = [0u64; 1024];
     let keys = &mut keys[..usize::from(count)];
     sort_keys(log, keys);

@@ -108,6 +108,7 @@ fn check_places(exercise: &[u8], answer: &[u8], cells: u16, drivers: &[u16]) -> 
 }
 
 // 70 to 75, then 10 to 16.
+#[tactic(auto, using(crate::proofs::Outcomes::err_given, crate::proofs::Preparing::early_refused, crate::proofs::Preparing::early_goes))]
 fn check_early(settings: &[u8], exercise: &[u8]) -> Result<(), Broken>
     ensures { found result ≡ first_broken (settings_group settings.now ++ exercise_group exercise.now) }
 {

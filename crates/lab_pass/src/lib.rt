@@ -1,6 +1,6 @@
 #![tactic(auto)]
 
-ghost use Rattle.std.specs.Prelude.{◌≡◌, cond, map, ◌+◌, ◌<◌, length, get_or, slice_get, leb, ltb, Some, None};
+ghost use Rattle.std.specs.Prelude.{◌≡◌, cond, map, ◌+◌, ◌<◌, length, get_or, slice_get, leb, ltb, IsTrue, Some, None};
 ghost use Rattle.lab_rules.specs.Rules.{MAX_NETS_IN};
 ghost use Rattle.exercise.specs.passes.Known.{known_at};
 ghost use Rattle.distinct.specs.passes.Marks.{marking, mark_all, Lower};
@@ -209,6 +209,14 @@ fn counted_from(
     Counted { counts, nets }
 }
 
+// Whether what was counted of two LABs is the same.
+fn is_same(a: Counted, b: Counted) -> bool
+    ensures same { IsTrue result → a ≡ b }
+    ensures found { a ≡ b → IsTrue result }
+{
+    a == b
+}
+
 // The result and the tries of a LAB: those of the LAB before where the counts and the nets in are the same.
 fn solve(
     table: EntryTable,
@@ -219,7 +227,7 @@ fn solve(
     requires { lab_search_from known ≡ searched table previous.counts previous.nets }
     ensures { lab_search_from result ≡ searched table counted.counts counted.nets }
 {
-    if counted == previous {
+    if is_same(counted, previous) {
         return known;
     }
     lab_rules::lab_search(table, counted.counts, counted.nets)

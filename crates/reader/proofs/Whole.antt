@@ -56,6 +56,7 @@ exercise_whole e calls l = reads_from cell_count logic_cell_at e (cell_count e) 
 
 -- at the end, and at a broken record, it stays put, and says the same again
 pub exercise_stays : (e : List ℕ) (at : ℕ) → stays (exercise_step_at e at) ≡ true → next_exercise e at ≡ at
+unfolding next_at
 exercise_stays e at h = stays_at cell_count logic_cell_at e at h
 
 pub exercise_again : (e : List ℕ) (at : ℕ) → stays (exercise_step_at e at) ≡ true → exercise_step_at e (next_exercise e at) ≡ exercise_step_at e at
@@ -67,6 +68,7 @@ pub answer_whole : (a : List ℕ) (calls : ℕ) → place_count a < calls → re
 answer_whole a calls l = reads_from place_count placed_at a (place_count a) calls 0 (omega arith) l
 
 pub answer_stays : (a : List ℕ) (at : ℕ) → stays (answer_step_at a at) ≡ true → next_answer a at ≡ at
+unfolding step_at
 answer_stays a at h = stays_at place_count placed_at a at h
 
 pub answer_again : (a : List ℕ) (at : ℕ) → stays (answer_step_at a at) ≡ true → answer_step_at a (next_answer a at) ≡ answer_step_at a at

@@ -5,3 +5,4 @@ pub mod Double
 pub mod Filled
 pub mod Same
 pub mod Found
+pub mod Bytes

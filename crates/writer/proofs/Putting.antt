@@ -33,6 +33,14 @@ pub front_is : (l a to : List ℕ) (k : ℕ) → to ≡ sets l 0 a → length a 
 front_is l a to k s e h =
     ap (λ (m : ℕ). take m to) (sym e) ∙ ap (take (length a)) (s ∙ front_stored l a (rw e h)) ∙ take-append_seam a (drop (length a) l)
 
+-- bytes are parts of one byte each
+bytes_each : (xs : List ℕ) → concat_map (λ (n : ℕ). n ∷ []) xs ≡ xs
+bytes_each [] = refl
+bytes_each (x ∷ xs) = ap (λ (l : List ℕ). x ∷ l) (bytes_each xs)
+
+pub flags_stored : (l m : List ℕ) (at : ℕ) (xs : List ℕ) → m ≡ sets l at (concat_map (λ (n : ℕ). n ∷ []) xs) → m ≡ sets l at xs
+flags_stored l m at xs h = h ∙ ap (sets l at) (bytes_each xs)
+
 -- ---- parts of one length, stored by a loop
 -- the first i parts are stored
 abbrev pub Stored : {A : Type 0} → (A → List ℕ) → List A → List ℕ → ℕ → List ℕ → ℕ → Type 0

@@ -91,6 +91,21 @@ fn put_each<P: Part>(to: &mut [u8], at: usize, parts: &[P])
     }
 }
 
+// The flags of an entry.
+impl Part for u8 {
+    ghost SIZE = { 1 };
+
+    ghost bytes = { λ n. n ∷ [] };
+
+    ghost sized = { λ n. refl };
+
+    const SIZE: usize = 1;
+
+    fn put(self, to: &mut [u8], at: usize) {
+        to[at] = self;
+    }
+}
+
 // A number's bytes, the low one first.
 impl Part for u16 {
     ghost SIZE = { 2 };
@@ -381,7 +396,7 @@ impl Board<'_> {
     }
 
     // Stores the sheet. Its length.
-    #[tactic(auto, using(crate::proofs::Putting::then_put, crate::proofs::Sheets::settings_head_size), unfolding(crate::specs::Boards::settings_sheet))]
+    #[tactic(auto, using(crate::proofs::Putting::then_put, crate::proofs::Putting::flags_stored, crate::proofs::Sheets::settings_head_size), unfolding(crate::specs::Boards::settings_sheet))]
     fn put_sheet(&self, to: &mut [u8]) -> usize
         requires { (head_of self.now.version + length self.now.entries.now ≤ length to.old) × (length self.now.entries.now ≤ 8) }
         ensures size { result ≡ head_of self.now.version + length self.now.entries.now }
@@ -389,7 +404,8 @@ impl Board<'_> {
     {
         self.put_head(to);
         let head = head_size(self.version);
-        put_bytes(to, head, self.entries);
+        // Not by `put_bytes`: a copy of a length that only the caller knows calls memmove.
+        put_each(to, head, self.entries);
         head + self.entries.len()
     }
 }

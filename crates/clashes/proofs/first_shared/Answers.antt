@@ -19,17 +19,17 @@ returns-then-not-keyed c =
 
 pub free_to-free-requires : goal.free_to-free-requires
 free_to-free-requires c =
-    keyed_are _ _ _ _ (c.fill_keys-keyed.ensures c.if-not-keyed.false)
+    keyed_are _ _ _ _ (c.fill_keys-keyed.ensures.told c.if-not-keyed.false)
 
 pub first_clash-requires-2 : goal.first_clash-requires-2
 first_clash-requires-2 c =
-    let k = keyed_are _ _ _ _ (c.fill_keys-keyed.ensures c.if-not-keyed.false) in
+    let k = keyed_are _ _ _ _ (c.fill_keys-keyed.ensures.told c.if-not-keyed.false) in
     record { callable = λ j i a b. let h : i < 512 = omega (arith, k.room) in search rules }
 
 pub returns : goal.returns
 unfolding place_taken
 returns c =
-    let h = c.fill_keys-keyed.ensures c.if-not-keyed.false in
+    let h = c.fill_keys-keyed.ensures.told c.if-not-keyed.false in
     let free : FreeTo c.fill_keys-keyed.new.keys c.args.cells c.if-cells-le-FEW.free = elim c.if-cells-le-FEW.branch [
       | then-cells-le-FEW w ↦ rw w.free-is (none_free _ _)
       | else-cells-le-FEW w ↦ rw w.free-is w.free_to-free.ensures

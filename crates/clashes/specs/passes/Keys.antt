@@ -1,6 +1,6 @@
 -- One number, the key, for each place of each kind: where every cell has one, the pairwise scan of rule 50 compares keys, and a pass over one mark
 -- for each key tells where it has to begin. Assumes nothing.
-use Rattle.std.specs.Prelude.{ℕ, ◌+◌, ◌*◌, ◌-◌, ◌<◌, ◌≤◌, Bool, true, false, cond, ◌&&◌, ◌||◌, ◌≡◌, Option, Some, None, List, get_or, eqb, ltb}
+use Rattle.std.specs.Prelude.{ℕ, zero, suc, ◌+◌, ◌*◌, ◌-◌, ◌<◌, ◌≤◌, Bool, true, false, cond, ◌&&◌, ◌||◌, ◌≡◌, Option, Some, None, List, get_or, set, eqb, ltb}
 use Rattle.sheet.specs.Lists.{anyb, below}
 use Rattle.placing.specs.Places.{kind_at, x_at, y_at, lab_at, le_at}
 
@@ -16,6 +16,11 @@ has_key e a i =
 -- the key of a cell that has one
 unfoldable pub key_of : List ℕ → List ℕ → ℕ → Option ℕ
 key_of e a i = cond (has_key e a i) (Some (key e a i)) None
+
+-- the keys of the cells below k, put into a table
+unfoldable pub put_keys : List ℕ → List ℕ → List ℕ → ℕ → List ℕ
+put_keys e a keys zero = keys
+put_keys e a keys (suc k) = set (put_keys e a keys k) k (key e a k)
 
 -- each of the first n cells has a key, which stands in the table
 pub record KeysOf (e a keys : List ℕ) (n : ℕ) : Type 0 where

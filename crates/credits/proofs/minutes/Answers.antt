@@ -4,7 +4,7 @@ use lib.Seq.{length-take-le}
 use Rattle.std.proofs.Common.{rules}
 use Rattle.sheet.specs.Refusals.{number_of}
 use Rattle.tablet_log.specs.Credited.{credited_from}
-use Rattle.credits.proofs.Outcome.{keys_few, refused_lists, refused_log, refused_many, lists_filled}
+use Rattle.credits.proofs.Outcome.{keys_few, refused_lists, refused_log, refused_many, none_filled, lists_filled}
 use Rattle.credits.proofs.minutes.Goals as goal
 use Rattle.credits.proofs.minutes.Goals.{then-rows-ne-ROWS-via-then-rows-ne-ROWS, then-rows-ne-ROWS-via-else-rows-ne-ROWS+then-numbers-ne-ENTRY_NUMBERS}
 
@@ -22,6 +22,21 @@ returns-in_err-check_log c =
     let e = c.in_err-check_log in
     let told : credited_from c.from_residual.result ≡ record { number = number_of e.field-0.0; rows = 0; entries = 0 } = search rules in
     refused_log a.log.now a.rows.now a.numbers.now c.if-rows-ne-ROWS.false c.if-numbers-ne-ENTRY_NUMBERS.false _ _ e.ensures told
+
+pub returns-then-count-eq0-clause-told : goal.returns-then-count-eq0-clause-told
+returns-then-count-eq0-clause-told c =
+    let a = c.args in
+    (none_filled a.log.now a.rows.now a.numbers.now c.if-rows-ne-ROWS.false c.if-numbers-ne-ENTRY_NUMBERS.false (sym c.in_ok-check_log.ensures) (sym c.if-count-eq0.true ∙ c.entry_count-count.ensures)).told
+
+pub returns-then-count-eq0-clause-minutes : goal.returns-then-count-eq0-clause-minutes
+returns-then-count-eq0-clause-minutes c =
+    let a = c.args in
+    (none_filled a.log.now a.rows.now a.numbers.now c.if-rows-ne-ROWS.false c.if-numbers-ne-ENTRY_NUMBERS.false (sym c.in_ok-check_log.ensures) (sym c.if-count-eq0.true ∙ c.entry_count-count.ensures)).minutes
+
+pub returns-then-count-eq0-clause-listed : goal.returns-then-count-eq0-clause-listed
+returns-then-count-eq0-clause-listed c =
+    let a = c.args in
+    (none_filled a.log.now a.rows.now a.numbers.now c.if-rows-ne-ROWS.false c.if-numbers-ne-ENTRY_NUMBERS.false (sym c.in_ok-check_log.ensures) (sym c.if-count-eq0.true ∙ c.entry_count-count.ensures)).listed
 
 pub slice_bounds-keys-end : goal.slice_bounds-keys-end
 slice_bounds-keys-end c =

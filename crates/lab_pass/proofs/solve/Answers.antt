@@ -1,7 +1,7 @@
 -- Where the counts and the nets in are those of the LAB before, so are the result and the tries.
-use Rattle.lab_pass.proofs.Same.{same_search}
+use Rattle.lab_pass.proofs.Same.{search_again}
 use Rattle.lab_pass.proofs.solve.Goals as goal
 
-pub returns-then-eq : goal.returns-then-eq
-returns-then-eq c =
-    same_search _ _ _ _ c.eq.ensures c.if-eq.true c.requires
+pub returns-then-is_same : goal.returns-then-is_same
+returns-then-is_same c =
+    search_again c.args.table c.args.counted c.args.previous (c.is_same.ensures.same c.if-is_same.true) c.requires
